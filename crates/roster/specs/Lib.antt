@@ -1,0 +1,3 @@
+pub mod Trains
+pub mod Book
+pub mod Model

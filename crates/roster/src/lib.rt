@@ -1,0 +1,3 @@
+// The trains to be planned, and the sections closed to them.
+pub mod roster;
+pub mod train;

@@ -1,0 +1,4 @@
+pub mod Joins
+pub mod StepLaws
+pub mod PairLaws
+pub mod Written

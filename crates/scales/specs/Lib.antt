@@ -1,0 +1,4 @@
+pub mod Measure
+pub mod Steps
+pub mod Pairs
+pub mod Bytes

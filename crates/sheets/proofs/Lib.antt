@@ -1,0 +1,10 @@
+pub mod Least
+pub mod Places
+pub mod Costs
+pub mod Sheets
+pub mod Order
+pub mod Decide
+pub mod Exists
+pub mod Alls
+pub mod Posed
+pub mod Agreed

@@ -1,0 +1,5 @@
+pub mod Problem
+pub mod Plan
+pub mod Posing
+pub mod Inquiry
+pub mod Theorems

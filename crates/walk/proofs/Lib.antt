@@ -1,0 +1,3 @@
+pub mod Cuts
+pub mod Scans
+pub mod Whole

@@ -1,0 +1,12 @@
+pub mod Least
+pub mod BestWords
+pub mod Prices
+pub mod Runs
+pub mod Orders
+pub mod Spends
+pub mod Reading
+pub mod Picked
+pub mod Gathering
+pub mod Bridges
+pub mod RowProofs
+pub mod Solving

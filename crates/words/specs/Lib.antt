@@ -1,0 +1,6 @@
+pub mod Words
+pub mod Joint
+pub mod Bridge
+pub mod Gathering
+pub mod Tasks
+pub mod Rows
