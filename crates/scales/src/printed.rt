@@ -27,7 +27,7 @@ pub trait PrintedScale: Scale {
 // Writes a number as two bytes, the high one first.
 fn put(out: &mut [u8; 4], at: usize, n: u16)
     requires { ⌜ at ≤ 2 ⌝ }
-    ensures { λ _. ⌜ now (out .exit) ≡ set (set (now (out .entry)) at (n / 256)) (at + 1) (n % 256) ⌝ }
+    ensures both_bytes_are_written { λ _. ⌜ now (out .exit) ≡ set (set (now (out .entry)) at (n / 256)) (at + 1) (n % 256) ⌝ }
 {
     let (high, low) = (n / 256, n % 256);
     out[at] = high as u8;

@@ -14,7 +14,7 @@ use scales::scale::Scale;
 
 fn same_row(x: [u8; 17], y: [u8; 17], times: usize) -> bool
     requires { ⌜ times ≤ 17 ⌝ }
-    ensures { λ r. ⌜ r ≡ all times (λ t. eqb (getD x t 0) (getD y t 0)) ⌝ }
+    ensures whether_the_rows_are_the_same { λ r. ⌜ r ≡ all times (λ t. eqb (getD x t 0) (getD y t 0)) ⌝ }
 {
     for time in 0..times {
         if x[time] != y[time] {
@@ -25,7 +25,7 @@ fn same_row(x: [u8; 17], y: [u8; 17], times: usize) -> bool
 }
 
 fn same_rows(question: &Question, a: &Sheet, b: &Sheet) -> bool
-    ensures { λ r. ⌜ r ≡ sameRows (rowsOf (now (question .entry) .roster .now)) (now (question .entry) .steps) (marked (now (question .entry) .group)) (planOf (now (a .entry))) (planOf (now (b .entry))) ⌝ }
+    ensures whether_the_rows_of_the_group_are_the_same { λ r. ⌜ r ≡ sameRows (rowsOf (now (question .entry) .roster .now)) (now (question .entry) .steps) (marked (now (question .entry) .group)) (planOf (now (a .entry))) (planOf (now (b .entry))) ⌝ }
 {
     for row in 0..question.roster.count() {
         let same = same_row(a.rows[row], b.rows[row], question.steps + 1);

@@ -12,7 +12,7 @@ use track::layout::Layout;
 use track::refusal::Refusal;
 
 fn all_on(layout: &Layout, roster: &Roster) -> bool
-    ensures { λ r. ⌜ r ≡ allOn (now (layout .entry)) (now (roster .entry)) ⌝ }
+    ensures whether_all_starts_and_goals_are_on_the_layout { λ r. ⌜ r ≡ allOn (now (layout .entry)) (now (roster .entry)) ⌝ }
 {
     let sections = layout.sections();
     for row in 0..roster.count() {
@@ -29,7 +29,7 @@ fn all_on(layout: &Layout, roster: &Roster) -> bool
 }
 
 fn all_rows(roster: &Roster, group: [bool; 8]) -> bool
-    ensures { λ r. ⌜ r ≡ allRows (now (roster .entry)) group ⌝ }
+    ensures whether_all_marks_are_rows { λ r. ⌜ r ≡ allRows (now (roster .entry)) group ⌝ }
 {
     let rows = roster.count();
     for row in 0..8 {
@@ -41,7 +41,7 @@ fn all_rows(roster: &Roster, group: [bool; 8]) -> bool
 }
 
 fn members(roster: &Roster, group: [bool; 8]) -> usize
-    ensures { λ r. ⌜ r ≡ count (rowsOf (now (roster .entry))) (marked group) ⌝ }
+    ensures how_many_rows_are_marked { λ r. ⌜ r ≡ count (rowsOf (now (roster .entry))) (marked group) ⌝ }
 {
     let mut n = 0;
     for row in 0..roster.count() {

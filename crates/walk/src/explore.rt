@@ -30,7 +30,7 @@ fn explore<S: Scale, R: Rule>(
     bound: Option<S::Cost>,
 ) -> Option<Found<S::Cost>>
     requires { ⌜ Ready (S·Scale .measure (now (now board .scale))) (taskOf (R·Rule .conflicts (now (now board .rule)) (now (now board .layout))) (now (now board .layout)) (now (now board .roster)) (now board .trains) (now board .goal)) left j place sofar ⌝ }
-    ensures { λ r. ⌜ Walked (S·Scale .measure (now (now (board .entry) .scale))) (taskOf (R·Rule .conflicts (now (now (board .entry) .rule)) (now (now (board .entry) .layout))) (now (now (board .entry) .layout)) (now (now (board .entry) .roster)) (now (board .entry) .trains) (now (board .entry) .goal)) left j place at to sofar bound r ⌝ }
+    ensures the_best_that_stays_below_the_bound { λ r. ⌜ Walked (S·Scale .measure (now (now (board .entry) .scale))) (taskOf (R·Rule .conflicts (now (now (board .entry) .rule)) (now (now (board .entry) .layout))) (now (now (board .entry) .layout)) (now (now (board .entry) .roster)) (now (board .entry) .trains) (now (board .entry) .goal)) left j place at to sofar bound r ⌝ }
 {
     if spent_up(board.scale, bound, sofar) {
         return None;
@@ -71,7 +71,7 @@ pub(crate) fn best_of<S: Scale, R: Rule>(
     chosen: Chosen,
 ) -> Option<Found<S::Cost>>
     requires { ⌜ ChosenTo (now question) (rowsOf (now question .roster .now)) chosen ⌝ }
-    ensures { λ r. ⌜ Solution (S·Scale .measure (now (scale .entry))) (taskOf (R·Rule .conflicts (now (rule .entry)) (now (question .entry) .layout .now)) (now (question .entry) .layout .now) (now (question .entry) .roster .now) (chosen .trains) (chosen .goal)) (now (question .entry) .steps) (chosen .start) r ⌝ }
+    ensures the_least_cost_and_the_first_word_of_it { λ r. ⌜ Solution (S·Scale .measure (now (scale .entry))) (taskOf (R·Rule .conflicts (now (rule .entry)) (now (question .entry) .layout .now)) (now (question .entry) .layout .now) (now (question .entry) .roster .now) (chosen .trains) (chosen .goal)) (now (question .entry) .steps) (chosen .start) r ⌝ }
 {
     let goal = chosen.goal;
     let start = chosen.start;

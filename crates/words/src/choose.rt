@@ -8,7 +8,7 @@ use sheets::question::Question;
 
 fn add(chosen: Chosen, row: u8, train: Train) -> Chosen
     requires { ⌜ chosen .trains < 8 ⌝ }
-    ensures { λ c. ⌜ c ≡ added chosen row (train .start) (train .goal) ⌝ }
+    ensures one_row_more { λ c. ⌜ c ≡ added chosen row (train .start) (train .goal) ⌝ }
 {
     let mut rows = chosen.row;
     let mut starts = chosen.start;

@@ -12,7 +12,7 @@ use track::layout::Layout;
 
 // Whether a train in a may stand there or run to b, which is open.
 fn open_to(layout: &Layout, roster: &Roster, a: u8, b: u8) -> bool
-    ensures { λ r. ⌜ r ≡ openTo (now (layout .entry)) (now (roster .entry)) a b ⌝ }
+    ensures whether_the_move_is_open { λ r. ⌜ r ≡ openTo (now (layout .entry)) (now (roster .entry)) a b ⌝ }
 {
     let linked = layout.points(a, b).is_some();
     ((a == b) | linked) & !roster.is_closed(b)
@@ -20,7 +20,7 @@ fn open_to(layout: &Layout, roster: &Roster, a: u8, b: u8) -> bool
 
 // The points run over in a move: none when standing.
 fn run_over(layout: &Layout, a: u8, b: u8) -> u8
-    ensures { λ r. ⌜ r ≡ over (now (layout .entry)) a b ⌝ }
+    ensures the_points_run_over { λ r. ⌜ r ≡ over (now (layout .entry)) a b ⌝ }
 {
     if a == b {
         return 0;

@@ -7,7 +7,7 @@ use sheets::sheet::Sheet;
 // A row with the sections of the i-th of k trains at times 0 to `steps`.
 fn row_of(old: [u8; 17], start: u8, plan: [u8; 128], k: usize, i: usize, steps: usize) -> [u8; 17]
     requires { ⌜ i < k ⌝ ∗ ⌜ k ≤ 8 ⌝ ∗ ⌜ steps ≤ 16 ⌝ }
-    ensures { λ r. ⌜ RowWritten old r start plan k i steps ⌝ }
+    ensures the_plan_is_written_in_the_row { λ r. ⌜ RowWritten old r start plan k i steps ⌝ }
 {
     let mut row = old;
     row[0] = start;

@@ -38,14 +38,14 @@ impl Drawing {
 
     // Whether there is a link between `a` and `b`, from whichever end.
     fn has_link(&self, a: u8, b: u8) -> bool
-        ensures { λ r. ⌜ r ≡ linkedEither (drawn (now (self .entry)) .links) a b ⌝ }
+        ensures whether_there_is_such_a_link { λ r. ⌜ r ≡ linkedEither (drawn (now (self .entry)) .links) a b ⌝ }
     {
         linked_in(&self.links[0..self.link_count], a, b)
     }
 
     // Whether the links a-b and c-d foul already.
     fn has_foul(&self, a: u8, b: u8, c: u8, d: u8) -> bool
-        ensures { λ r. ⌜ r ≡ fouledBy (drawn (now (self .entry)) .fouls) a b c d ⌝ }
+        ensures whether_the_foul_is_there { λ r. ⌜ r ≡ fouledBy (drawn (now (self .entry)) .fouls) a b c d ⌝ }
     {
         fouled_in(&self.fouls[0..self.foul_count], a, b, c, d)
     }

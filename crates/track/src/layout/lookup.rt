@@ -8,8 +8,8 @@ use crate::layout::Layout;
 
 impl Layout {
     pub fn sections(&self) -> u8
-        ensures value { λ r. ⌜ r ≡ sectionsOf (now (self .entry)) ⌝ }
-        ensures bound { λ r. ⌜ r ≤ 32 ⌝ }
+        ensures how_many_sections_there_are { λ r. ⌜ r ≡ sectionsOf (now (self .entry)) ⌝ }
+        ensures at_most_thirty_two { λ r. ⌜ r ≤ 32 ⌝ }
     {
         self.sections
     }
@@ -42,7 +42,7 @@ impl Layout {
     }
 
     fn held_fouls(&self) -> &[Foul]
-        ensures { λ r. ⌜ ((a b c d : ℕ) → fouledBy (now r) a b c d ≡ fouled (now (self .entry)) a b c d) ⌝ }
+        ensures the_fouls_of_the_layout { λ r. ⌜ ((a b c d : ℕ) → fouledBy (now r) a b c d ≡ fouled (now (self .entry)) a b c d) ⌝ }
     {
         &self.fouls[0..self.foul_count]
     }

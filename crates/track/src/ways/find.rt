@@ -11,7 +11,7 @@ use crate::ways::Ways;
 impl Ways {
     // The ways from `a` over the links.
     pub(crate) fn over(links: &[Link], a: u8) -> Ways
-        ensures { λ r. ⌜ WaysFrom (now (links .entry)) a r ⌝ }
+        ensures the_ways_from_the_section { λ r. ⌜ WaysFrom (now (links .entry)) a r ⌝ }
     {
         let points = points_from(links, a);
         let mut count: usize = 0;
@@ -32,7 +32,7 @@ impl Ways {
     // The points on the way to `b`.
     pub(crate) fn points_to(&self, b: u8) -> Option<u8>
         requires { ⌜ b < 32 ⌝ }
-        ensures { λ r. ⌜ r ≡ getD (now (self .entry) .points) b None ⌝ }
+        ensures the_points_on_the_way { λ r. ⌜ r ≡ getD (now (self .entry) .points) b None ⌝ }
     {
         self.points[b as usize]
     }
@@ -40,7 +40,7 @@ impl Ways {
     // The sections that a link leads to.
     pub(crate) fn ends(&self) -> &[u8]
         requires { ⌜ now self .count ≤ 32 ⌝ }
-        ensures { λ r. ⌜ now r ≡ take (now (self .entry) .count) (now (self .entry) .ends) ⌝ }
+        ensures the_sections_that_a_link_leads_to { λ r. ⌜ now r ≡ take (now (self .entry) .count) (now (self .entry) .ends) ⌝ }
     {
         &self.ends[0..self.count]
     }
@@ -48,7 +48,7 @@ impl Ways {
 
 // The points on the way from `a` to each section.
 fn points_from(links: &[Link], a: u8) -> [Option<u8>; 32]
-    ensures { λ r. ⌜ ((b : ℕ) → b < 32 → getD r b None ≡ pointsOf (now (links .entry)) a b) ⌝ }
+    ensures the_points_to_each_section { λ r. ⌜ ((b : ℕ) → b < 32 → getD r b None ≡ pointsOf (now (links .entry)) a b) ⌝ }
 {
     let mut row = [None; 32];
     for b in 0..32u8 {
@@ -59,7 +59,7 @@ fn points_from(links: &[Link], a: u8) -> [Option<u8>; 32]
 
 // The ways from each section over the links.
 pub(crate) fn chart(links: &[Link]) -> [Ways; 32]
-    ensures { λ r. ⌜ ((a : ℕ) → a < 32 → WaysFrom (now (links .entry)) a (getD r a noWays)) ⌝ }
+    ensures the_ways_from_each_section { λ r. ⌜ ((a : ℕ) → a < 32 → WaysFrom (now (links .entry)) a (getD r a noWays)) ⌝ }
 {
     let mut ways = [Ways {
         points: [None; 32],

@@ -18,7 +18,7 @@ returns g c =
     let i = inquiry (g .R·Rule .conflicts (c .args .rule .now)) S q in
     let e = same-told (i .problem) (i .group) (planOf (c .args .a .now)) (planOf (c .args .b .now)) in
     record {
-      true-exactly-if-they-count-as-one = record { to = λ h. e .to (sym (c .same-rows .ensures) ∙ h); back = λ s. c .same-rows .ensures ∙ e .back s };
+      true-exactly-if-they-count-as-one = record { to = λ h. e .to (sym (c .same-rows .ensures .whether-the-rows-of-the-group-are-the-same) ∙ h); back = λ s. c .same-rows .ensures .whether-the-rows-of-the-group-are-the-same ∙ e .back s };
       at-most-one-sheet-is-best = best-unique S L (i .problem) K (i .group);
       a-group-has-a-best-sheet-or-no-lawful-one = best-or-none S L (i .problem) K (i .group);
     }

@@ -27,16 +27,18 @@ loop-row-holds c = refl
 
 pub returns-then-question-row : need.returns-then-question-row
 unfolding sameRows
-returns-then-question-row c =
-    let h : c .loop-row .row < rowsOf (c .args .question .now .roster .now) = omega (arith, c .count-row-end .ensures .as-many-as-there-are-rows) in
-    sym (all-false _ _ (c .loop-row .row) h (miss _ _ _ (c .same-row-same .ensures) (c .if-question-row .taken)))
+returns-then-question-row c = record {
+  whether-the-rows-of-the-group-are-the-same = (let h : c .loop-row .row < rowsOf (c .args .question .now .roster .now) = omega (arith, c .count-row-end .ensures .as-many-as-there-are-rows) in
+      sym (all-false _ _ (c .loop-row .row) h (miss _ _ _ (c .same-row-same .ensures .whether-the-rows-are-the-same) (c .if-question-row .taken))));
+}
 
 pub loop-row-again : need.loop-row-again
 unfolding sameRows
-loop-row-again c = all-more (c .loop-row .row) _ (c .loop-row .inv) (hit _ _ _ (c .same-row-same .ensures) (c .if-question-row .left))
+loop-row-again c = all-more (c .loop-row .row) _ (c .loop-row .inv) (hit _ _ _ (c .same-row-same .ensures .whether-the-rows-are-the-same) (c .if-question-row .left))
 
 pub returns : need.returns
 unfolding sameRows
-returns c =
-    let h : c .loop-row .row ≡ rowsOf (c .args .question .now .roster .now) = omega (arith, c .count-row-end .ensures .as-many-as-there-are-rows) in
-    all-to _ (c .loop-row .row) _ h (c .loop-row .inv)
+returns c = record {
+  whether-the-rows-of-the-group-are-the-same = (let h : c .loop-row .row ≡ rowsOf (c .args .question .now .roster .now) = omega (arith, c .count-row-end .ensures .as-many-as-there-are-rows) in
+      all-to _ (c .loop-row .row) _ h (c .loop-row .inv));
+}

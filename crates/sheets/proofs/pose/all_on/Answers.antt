@@ -18,13 +18,14 @@ hit : (s g a b n : ℕ) → s ≡ a → g ≡ b → (leb n s || leb n g) ≡ fal
 hit s g a b n d e h = grind (arith, tells)
 
 pub returns-in-None : need.returns-in-None
-returns-in-None c = absurd (omega (arith, c .in-None .ensures tt .a-row-has-its-start-and-goal, c .count-row-end .ensures .as-many-as-there-are-rows))
+returns-in-None c = record { whether-all-starts-and-goals-are-on-the-layout = (absurd (omega (arith, c .in-None .ensures tt .a-row-has-its-start-and-goal, c .count-row-end .ensures .as-many-as-there-are-rows))) }
 
 pub returns-then-train-sections : need.returns-then-train-sections
 unfolding allOn
-returns-then-train-sections c =
-    let t = c .in-Some .ensures tt .a-row-has-its-start-and-goal in
-    sym (all-false _ _ (c .loop-row .row) (t .inside) (miss _ _ _ _ _ _ (t .start) (t .goal) (c .sections-sections .ensures .value) (c .if-train-sections .taken)))
+returns-then-train-sections c = record {
+  whether-all-starts-and-goals-are-on-the-layout = (let t = c .in-Some .ensures tt .a-row-has-its-start-and-goal in
+      sym (all-false _ _ (c .loop-row .row) (t .inside) (miss _ _ _ _ _ _ (t .start) (t .goal) (c .sections-sections .ensures .how-many-sections-there-are) (c .if-train-sections .taken))));
+}
 
 pub loop-row-again : need.loop-row-again
 loop-row-again c =
@@ -33,8 +34,9 @@ loop-row-again c =
 
 pub returns : need.returns
 unfolding allOn
-returns c =
-    let o = c .args .roster .now in
-    let h : c .loop-row .row ≡ rowsOf o = omega (arith, c .count-row-end .ensures .as-many-as-there-are-rows) in
-    all-to (rowsOf o) (c .loop-row .row) _ h (c .loop-row .inv)
-    ∙ ap (λ (n : ℕ). all (rowsOf o) (λ r. ltb (startAt o r) n && ltb (goalAt o r) n)) (c .sections-sections .ensures .value)
+returns c = record {
+  whether-all-starts-and-goals-are-on-the-layout = (let o = c .args .roster .now in
+      let h : c .loop-row .row ≡ rowsOf o = omega (arith, c .count-row-end .ensures .as-many-as-there-are-rows) in
+      all-to (rowsOf o) (c .loop-row .row) _ h (c .loop-row .inv)
+      ∙ ap (λ (n : ℕ). all (rowsOf o) (λ r. ltb (startAt o r) n && ltb (goalAt o r) n)) (c .sections-sections .ensures .how-many-sections-there-are));
+}

@@ -18,18 +18,20 @@ hit g r n h = grind (arith, tells)
 
 pub returns-then-group-row : need.returns-then-group-row
 unfolding allRows
-returns-then-group-row c =
-    let g = c .args .group in
-    let o = c .args .roster .now in
-    let r = c .loop-row .row in
-    sym (all-false 8 (λ i. not (marked g i) || ltb i (rowsOf o)) r (c .loop-row-test .taken) (miss (marked g r) (rowsOf o) r (c .count-rows .result) (c .count-rows .ensures .as-many-as-there-are-rows) (c .if-group-row .taken)))
+returns-then-group-row c = record {
+  whether-all-marks-are-rows = (let g = c .args .group in
+      let o = c .args .roster .now in
+      let r = c .loop-row .row in
+      sym (all-false 8 (λ i. not (marked g i) || ltb i (rowsOf o)) r (c .loop-row-test .taken) (miss (marked g r) (rowsOf o) r (c .count-rows .result) (c .count-rows .ensures .as-many-as-there-are-rows) (c .if-group-row .taken))));
+}
 
 pub loop-row-again : need.loop-row-again
 loop-row-again c = all-more (c .loop-row .row) _ (c .loop-row .inv) (hit (marked (c .args .group) (c .loop-row .row)) (c .loop-row .row) (c .count-rows .result) (c .if-group-row .left))
 
 pub returns : need.returns
 unfolding allRows
-returns c =
-    let h : c .loop-row .row ≡ 8 = omega arith in
-    all-to 8 (c .loop-row .row) _ h (c .loop-row .inv)
-    ∙ ap (λ (n : ℕ). all 8 (λ r. not (marked (c .args .group) r) || ltb r n)) (c .count-rows .ensures .as-many-as-there-are-rows)
+returns c = record {
+  whether-all-marks-are-rows = (let h : c .loop-row .row ≡ 8 = omega arith in
+      all-to 8 (c .loop-row .row) _ h (c .loop-row .inv)
+      ∙ ap (λ (n : ℕ). all 8 (λ r. not (marked (c .args .group) r) || ltb r n)) (c .count-rows .ensures .as-many-as-there-are-rows));
+}

@@ -13,9 +13,10 @@ use Rattle.walk.proofs.explore.+explore.Needs as need
 use Rattle.walk.proofs.explore.+explore.Needs.{then-may-move, else-may-move}
 
 pub returns-then-spent-up : need.returns-then-spent-up
-returns-then-spent-up g t c =
-    walked-up _ (g .S·Scale·met .lawful _) _ (c .args .left) (c .args .j) (c .args .place) (c .args .at) (c .args .to) (c .args .sofar) (c .args .bound) (c .pre)
-    (sym (c .spent-up .ensures) ∙ c .if-spent-up .taken)
+returns-then-spent-up g t c = record {
+  the-best-that-stays-below-the-bound = (walked-up _ (g .S·Scale·met .lawful _) _ (c .args .left) (c .args .j) (c .args .place) (c .args .at) (c .args .to) (c .args .sofar) (c .args .bound) (c .pre)
+      (sym (c .spent-up .ensures .whether-nothing-below-the-bound-is-left) ∙ c .if-spent-up .taken));
+}
 
 pub explore-requires : need.explore-requires
 explore-requires g t c κs within =
@@ -24,19 +25,21 @@ explore-requires g t c κs within =
     search needs
 
 pub returns-then-left-gt0 : need.returns-then-left-gt0
-returns-then-left-gt0 g t c =
-    let kt : c .args .board .now .trains ≤ length (c .args .to) = search needs in
-    walked-turn _ (g .S·Scale·met .lawful _) _ (c .args .left) (c .args .j) (c .args .place) (c .args .at) (c .args .to) (c .args .sofar) (c .args .bound) (c .pre) (c .if-j-board .taken) kt _ (c .explore .result) (c .if-left-gt0 .taken) (c .explore .ensures)
+returns-then-left-gt0 g t c = record {
+  the-best-that-stays-below-the-bound = (let kt : c .args .board .now .trains ≤ length (c .args .to) = search needs in
+      walked-turn _ (g .S·Scale·met .lawful _) _ (c .args .left) (c .args .j) (c .args .place) (c .args .at) (c .args .to) (c .args .sofar) (c .args .bound) (c .pre) (c .if-j-board .taken) kt _ (c .explore .result) (c .if-left-gt0 .taken) (c .explore .ensures .the-best-that-stays-below-the-bound));
+}
 
 pub all-home-requires : need.all-home-requires
 all-home-requires g t c κs = c .pre .trains-most
 
 pub returns-then-j-board : need.returns-then-j-board
-returns-then-j-board g t c =
-    let kt : c .args .board .now .trains ≤ length (c .args .to) = search needs in
-    let z : c .args .left ≡ 0 = omega (arith, c .if-left-gt0 .left) in
-    walked-end _ (g .S·Scale·met .lawful _) _ (c .args .left) (c .args .j) (c .args .place) (c .args .at) (c .args .to) (c .args .sofar) (c .args .bound) (c .pre) (c .if-j-board .taken) kt (c .arrived .result) z
-    (sym (c .spent-up .ensures) ∙ c .if-spent-up .left) (subst (λ h. costOf (c .arrived .result) ≡ foundIf h (c .args .sofar)) (c .all-home .ensures .whether-every-train-is-at-its-goal) (c .arrived .ensures .cost)) (c .arrived .ensures .long)
+returns-then-j-board g t c = record {
+  the-best-that-stays-below-the-bound = (let kt : c .args .board .now .trains ≤ length (c .args .to) = search needs in
+      let z : c .args .left ≡ 0 = omega (arith, c .if-left-gt0 .left) in
+      walked-end _ (g .S·Scale·met .lawful _) _ (c .args .left) (c .args .j) (c .args .place) (c .args .at) (c .args .to) (c .args .sofar) (c .args .bound) (c .pre) (c .if-j-board .taken) kt (c .arrived .result) z
+      (sym (c .spent-up .ensures .whether-nothing-below-the-bound-is-left) ∙ c .if-spent-up .left) (subst (λ h. costOf (c .arrived .result) ≡ foundIf h (c .args .sofar)) (c .all-home .ensures .whether-every-train-is-at-its-goal) (c .arrived .ensures .the-cost-where-all-are-home)) (c .arrived .ensures .the-plan-has-128-places));
+}
 
 pub loop-x-holds : need.loop-x-holds
 loop-x-holds g t c =
@@ -70,11 +73,11 @@ loop-x-again g t c =
     elim (c .if-may-move .came) [
       | then-may-move w ↦
           let e = w .join .ensures .both-costs-together ∙ ap (g .S·Scale .measure (c .args .board .now .scale .now) .join (c .args .sofar)) (w .move-price-price .ensures .the-price-of-the-move) in
-          let n = w .nearer .ensures in
-          let b = w .best-is ∙ w .newer-best .ensures in
-          let p = w .put .ensures in
+          let n = w .nearer .ensures .the-cost-of-the-best-or-the-bound in
+          let b = w .best-is ∙ w .newer-best .ensures .what-was-found-or-the-best-so-far in
+          let p = w .put .ensures .the-section-is-written in
           let m = sym (c .may-move .ensures .whether-the-move-is-open-and-meets-no-conflict) ∙ w .if-may-move .taken in
-          let W = rw (e, n) at (w .explore-found .ensures) in
+          let W = rw (e, n) at (w .explore-found .ensures .the-best-that-stays-below-the-bound) in
           rw (b, p) (scan-move _ (g .S·Scale·met .lawful _) _ (c .args .left) (c .args .j) (c .args .place) (c .args .at) (c .args .to) (c .args .sofar) (c .args .bound) (c .pre) jk la lt (c .loop-x .x) (c .loop-x .best) (w .explore-found .result) (c .loop-x .inv) m W)
       | else-may-move w ↦
           let m = sym (c .may-move .ensures .whether-the-move-is-open-and-meets-no-conflict) ∙ w .if-may-move .left in
@@ -82,9 +85,10 @@ loop-x-again g t c =
     ]
 
 pub returns : need.returns
-returns g t c =
-    let jk : c .args .j < c .args .board .now .trains = omega (arith, c .pre .in-group, c .if-j-board .left) in
-    let la : c .args .board .now .trains ≤ length (c .args .at) = search needs in
-    let lt : c .args .board .now .trains ≤ length (c .args .to) = search needs in
-    let e : c .loop-x .x ≡ sectionsOf (c .args .board .now .layout .now) = omega (arith, c .loop-x-test .left, c .loop-x .kept, c .sections-x-end .ensures .value) in
-    scan-all _ (g .S·Scale·met .lawful _) _ (c .args .left) (c .args .j) (c .args .place) (c .args .at) (c .args .to) (c .args .sofar) (c .args .bound) (c .pre) jk la lt _ (rw e at (c .loop-x .inv))
+returns g t c = record {
+  the-best-that-stays-below-the-bound = (let jk : c .args .j < c .args .board .now .trains = omega (arith, c .pre .in-group, c .if-j-board .left) in
+      let la : c .args .board .now .trains ≤ length (c .args .at) = search needs in
+      let lt : c .args .board .now .trains ≤ length (c .args .to) = search needs in
+      let e : c .loop-x .x ≡ sectionsOf (c .args .board .now .layout .now) = omega (arith, c .loop-x-test .left, c .loop-x .kept, c .sections-x-end .ensures .how-many-sections-there-are) in
+      scan-all _ (g .S·Scale·met .lawful _) _ (c .args .left) (c .args .j) (c .args .place) (c .args .at) (c .args .to) (c .args .sofar) (c .args .bound) (c .pre) jk la lt _ (rw e at (c .loop-x .inv)));
+}

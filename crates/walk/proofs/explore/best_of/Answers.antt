@@ -12,6 +12,7 @@ explore-requires g c κs =
     (g .R·Rule·met .lawful (c .args .rule .now) (c .args .question .now .layout .now)) (c .nothing .result) (c .nothing .ensures .the-cost-of-no-step)
 
 pub returns : need.returns
-returns g c =
-    solution (g .R·Rule .conflicts (c .args .rule .now)) (c .args .question .now) (c .args .chosen) (c .pre) (g .S·Scale .measure (c .args .scale .now)) (g .S·Scale·met .lawful (c .args .scale .now))
-    (g .R·Rule·met .lawful (c .args .rule .now) (c .args .question .now .layout .now)) _ (c .nothing .result) (c .explore .result) (c .nothing .ensures .the-cost-of-no-step) refl (c .explore .ensures)
+returns g c = record {
+  the-least-cost-and-the-first-word-of-it = (solution (g .R·Rule .conflicts (c .args .rule .now)) (c .args .question .now) (c .args .chosen) (c .pre) (g .S·Scale .measure (c .args .scale .now)) (g .S·Scale·met .lawful (c .args .scale .now))
+      (g .R·Rule·met .lawful (c .args .rule .now) (c .args .question .now .layout .now)) _ (c .nothing .result) (c .explore .result) (c .nothing .ensures .the-cost-of-no-step) refl (c .explore .ensures .the-best-that-stays-below-the-bound));
+}

@@ -14,7 +14,7 @@ loop-row-again c =
       | then-question-row·in-Some w ↦
           let t = w .in-Some .ensures tt .a-row-has-its-start-and-goal in
           let few : c .loop-row .chosen .trains < 8 = omega (arith, c .loop-row .inv .few, c .loop-row-test .taken, c .count-row-end .ensures .at-most-eight) in
-          rw (w .chosen-is ∙ w .add-chosen .ensures) (chosen-more q n (c .loop-row .chosen) _ _ (c .loop-row .inv) (w .if-question-row .taken) few (t .start) (t .goal))
+          rw (w .chosen-is ∙ w .add-chosen .ensures .one-row-more) (chosen-more q n (c .loop-row .chosen) _ _ (c .loop-row .inv) (w .if-question-row .taken) few (t .start) (t .goal))
       | then-question-row·in-None w ↦ absurd (omega (arith, w .in-None .ensures tt .a-row-has-its-start-and-goal, c .loop-row-test .taken, c .count-row-end .ensures .as-many-as-there-are-rows))
       | else-question-row w ↦ rw (w .chosen-is) (chosen-skip q n (c .loop-row .chosen) (c .loop-row .inv) (w .if-question-row .left))
     ]

@@ -14,6 +14,6 @@ returns g c =
     let goal = getD (c .args .board .now .goal) (c .args .j) 0 in
     record {
       the-price-of-the-move = c .price .ensures .the-price-of-the-step
-          ∙ ap (λ z. S .price z (eqb a goal && eqb (c .args .x) goal)) (c .run-over-points .ensures)
+          ∙ ap (λ z. S .price z (eqb a goal && eqb (c .args .x) goal)) (c .run-over-points .ensures .the-points-run-over)
           ∙ ap (λ z. S .price (over (c .args .board .now .layout .now) a (c .args .x)) (eqb a z && eqb (c .args .x) z)) (sym b);
     }

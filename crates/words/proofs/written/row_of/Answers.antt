@@ -25,7 +25,8 @@ loop-t-again c =
     (length-set (c .loop-t .row) _ _ ∙ c .loop-t .inv .0, row-more _ (c .loop-t .row) (c .args .start) (c .args .plan) (c .args .k) (c .args .i) (c .loop-t .t) (c .loop-t .inv .1) h)
 
 pub returns : need.returns
-returns c =
-    let e : c .loop-t .t ≡ c .args .steps = omega (arith, c .loop-t-test .left, c .loop-t .kept) in
-    subst (RowWritten (c .args .old) (c .loop-t .row) (c .args .start) (c .args .plan) (c .args .k) (c .args .i)) e
-    (row-end (c .args .old) (c .loop-t .row) (c .args .start) (c .args .plan) (c .args .k) (c .args .i) (c .loop-t .t) (c .loop-t .inv .1))
+returns c = record {
+  the-plan-is-written-in-the-row = (let e : c .loop-t .t ≡ c .args .steps = omega (arith, c .loop-t-test .left, c .loop-t .kept) in
+      subst (RowWritten (c .args .old) (c .loop-t .row) (c .args .start) (c .args .plan) (c .args .k) (c .args .i)) e
+      (row-end (c .args .old) (c .loop-t .row) (c .args .start) (c .args .plan) (c .args .k) (c .args .i) (c .loop-t .t) (c .loop-t .inv .1)));
+}

@@ -13,7 +13,7 @@ loop-i-holds c = written-none (c .args .chosen) (c .args .plan) (c .args .steps)
 pub loop-i-again : need.loop-i-again
 loop-i-again c =
     let l : getD (c .args .chosen .row) (c .loop-i .i) 0 < length (c .loop-i .sheet .rows) = search needs in
-    written-more (c .args .chosen) (c .args .plan) (c .args .steps) (c .loop-i .i) (c .args .sheet .now) (c .loop-i .sheet) (c .row-of .result) (c .pre .rows) (c .loop-i-test .taken) (c .loop-i .inv) (c .row-of .ensures) l
+    written-more (c .args .chosen) (c .args .plan) (c .args .steps) (c .loop-i .i) (c .args .sheet .now) (c .loop-i .sheet) (c .row-of .result) (c .pre .rows) (c .loop-i-test .taken) (c .loop-i .inv) (c .row-of .ensures .the-plan-is-written-in-the-row) l
 
 pub returns : need.returns
 returns c =

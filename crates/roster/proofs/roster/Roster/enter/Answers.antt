@@ -36,7 +36,7 @@ returns c =
     let n = sectionsOf (c .args .layout .now) in
     let t : Train = record { number = c .args .number; start = c .args .start; goal = c .args .goal } in
     let e : take (r .count + 1) (c .insert-at .last .table) ≡ entered t (held r) = c .insert-at .ensures .the-train-stands-at-its-place ∙ ap (λ (p : ℕ). inserted (held r) p t) (c .place-p .ensures .as-many-as-come-before) ∙ inserted-entered t (held r) in
-    let v = c .sections-sections .ensures .value in
+    let v = c .sections-sections .ensures .how-many-sections-there-are in
     let e1 : (leb n (t .start) || leb n (t .goal)) ≡ false = grind (arith, tells) in
     let e0 : noNumber (t .number) ≡ false = sym (c .if-out-of-range .ensures tt .whether-no-train-has-such-a-number) in
     let e2 : taken numberOf (t .number) (held r) ≡ false = sym (c .if-number-taken .ensures tt .whether-a-train-has-the-number) in

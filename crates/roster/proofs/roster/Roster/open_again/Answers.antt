@@ -28,7 +28,7 @@ returns c =
     let r = c .args .self .now in
     let s = c .args .section in
     let n = sectionsOf (c .args .layout .now) in
-    let v = c .sections .ensures .value in
+    let v = c .sections .ensures .how-many-sections-there-are in
     let e1 : leb n s ≡ false = grind (arith, tells) in
     let h : has (r .closed) s ≡ true = sym (c .if-not-has .ensures tt .whether-the-bit-is-set) in
     record {

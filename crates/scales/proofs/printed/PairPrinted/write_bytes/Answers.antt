@@ -10,7 +10,7 @@ pub returns : need.returns
 returns c =
     let old = c .args .out .now in
     let p = c .args .cost .points in
-    let written = c .put-2 .ensures ∙ ap (λ (xs : List ℕ). set (set xs 2 (p / 256)) 3 (p % 256)) (c .put .ensures) in
+    let written = c .put-2 .ensures .both-bytes-are-written ∙ ap (λ (xs : List ℕ). set (set xs 2 (p / 256)) 3 (p % 256)) (c .put .ensures .both-bytes-are-written) in
     record {
       so-many-bytes = refl;
       no-more-than-four = omega arith;

@@ -10,6 +10,6 @@ returns c =
     record {
       so-many-bytes = refl;
       no-more-than-four = omega arith;
-      the-bytes-of-the-cost = ap (take 2) (c .put .ensures) ∙ first-two old _ _ (c .told-out);
-      the-rest-is-left-alone = ap (drop 2) (c .put .ensures) ∙ last-two old _ _ (c .told-out);
+      the-bytes-of-the-cost = ap (take 2) (c .put .ensures .both-bytes-are-written) ∙ first-two old _ _ (c .told-out);
+      the-rest-is-left-alone = ap (drop 2) (c .put .ensures .both-bytes-are-written) ∙ last-two old _ _ (c .told-out);
     }

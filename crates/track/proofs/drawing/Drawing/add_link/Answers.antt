@@ -23,7 +23,7 @@ ghost-self c =
     let x = linkOf (c .args .a) (c .args .b) (c .args .points) in
     let more = take-more-set (d .links) (d .«link_count») x (search needs) in
     let fine : linkGood (d .sections) x ≡ true = grind (arith, tells) in
-    let new : linkedEither ls (c .args .a) (c .args .b) ≡ false = sym (c .if-has-link .ensures tt) in
+    let new : linkedEither ls (c .args .a) (c .args .b) ≡ false = sym (c .if-has-link .ensures tt .whether-there-is-such-a-link) in
     let sound = ap (linksGood (d .sections)) more ∙ links-good-push (d .sections) ls x (d .sound) fine in
     let apart = ap linksApart more ∙ links-apart-push ls x (d .apart) new in
     let placed = ap (λ l. foulsGood l fs) more ∙ fouls-kept ls x fs (d .placed) in
@@ -39,7 +39,7 @@ returns c =
     let e1 : (leb (d .sections) a || leb (d .sections) b) ≡ false = grind (arith, tells) in
     let e3 : eqb a b ≡ false = grind (arith, tells) in
     let e4 : ltb 7 p ≡ false = grind (arith, tells) in
-    let e5 : linkedEither ls a b ≡ false = sym (c .if-has-link .ensures tt) in
+    let e5 : linkedEither ls a b ≡ false = sym (c .if-has-link .ensures tt .whether-there-is-such-a-link) in
     let e6 : leb 64 (length ls) ≡ false = simp length-take (grind (arith, tells)) in
     record {
       the-first-condition-met-declines = simp (e1, e3, e4, e5, e6);

@@ -15,7 +15,7 @@ ghost-result c =
     let n = d .«link_count» in
     let all : n ≡ n - 0 = omega arith in
     let ways = c .chart-ways .result in
-    let led = ap (λ k. charted (take k (d .links)) ways) all ∙ charted-from (take (n - 0) (d .links)) ways (c .chart-ways .ensures) in
+    let led = ap (λ k. charted (take k (d .links)) ways) all ∙ charted-from (take (n - 0) (d .links)) ways (c .chart-ways .ensures .the-ways-from-each-section) in
     (d .few, (d .roomy, (d .sound, (d .apart, (d .roomier, (d .placed, (d .once, (led, tt))))))))
 
 pub returns : need.returns

@@ -19,5 +19,5 @@ returns c =
     let a = c .args .a in
     record {
       the-linked-sections-in-rising-order =
-          subst (λ (xs : List ℕ). Neighbours l a xs) (sym (c .ends .ensures)) (neighbours-held l a _ (ways-at l a (omega arith)));
+          subst (λ (xs : List ℕ). Neighbours l a xs) (sym (c .ends .ensures .the-sections-that-a-link-leads-to)) (neighbours-held l a _ (ways-at l a (omega arith)));
     }

@@ -19,4 +19,4 @@ returns-then-a-self c =
 pub returns : need.returns
 returns c =
     let l = c .args .self .now in
-    record { the-points-of-the-link = c .points-to .ensures ∙ look-held l (c .args .a) (c .args .b) (omega arith) (omega arith) }
+    record { the-points-of-the-link = c .points-to .ensures .the-points-on-the-way ∙ look-held l (c .args .a) (c .args .b) (omega arith) (omega arith) }

@@ -18,7 +18,7 @@ loop-b-holds c = (refl, omega arith, refl)
 pub loop-b-again : need.loop-b-again
 loop-b-again c =
     let led : ℕ → Bool = λ k. isSome (pointsOf (c .args .links .now) (c .args .a) k) in
-    let here : c .is-some .result ≡ led (c .loop-b .b) = c .is-some .ensures ∙ ap isSome (c .points-from-points .ensures (c .loop-b .b) (c .loop-b-test .taken)) in
+    let here : c .is-some .result ≡ led (c .loop-b .b) = c .is-some .ensures ∙ ap isSome (c .points-from-points .ensures .the-points-to-each-section (c .loop-b .b) (c .loop-b-test .taken)) in
     let inv = c .loop-b .inv in
     let room : c .loop-b .count < length (c .loop-b .ends) = omega arith in
     elim (c .if-is-some .came) [
@@ -38,10 +38,11 @@ loop-b-again c =
 
 pub returns : need.returns
 unfolding neighboursOf
-returns c =
-    let e : c .loop-b .b ≡ 32 = omega arith in
-    record {
-      points-of = c .points-from-points .ensures;
-      room = omega arith;
-      ends-are = c .loop-b .inv .2 ∙ ap (passing (λ k. isSome (pointsOf (c .args .links .now) (c .args .a) k))) e;
-    }
+returns c = record {
+  the-ways-from-the-section = (let e : c .loop-b .b ≡ 32 = omega arith in
+      record {
+        points-of = c .points-from-points .ensures .the-points-to-each-section;
+        room = omega arith;
+        ends-are = c .loop-b .inv .2 ∙ ap (passing (λ k. isSome (pointsOf (c .args .links .now) (c .args .a) k))) e;
+      });
+}

@@ -21,8 +21,8 @@ loop-a-again c =
           (λ k h.
           let ne : k ≢ a = omega arith in
           subst (λ (w : Ways). WaysFrom ls k w) (sym (getD-set-other ways a k new noWays ne)) (c .loop-a .inv .1 k h))
-          (subst (λ (w : Ways). WaysFrom ls a w) (sym (getD-set-same ways a new noWays inside)) (c .over .ensures)),
+          (subst (λ (w : Ways). WaysFrom ls a w) (sym (getD-set-same ways a new noWays inside)) (c .over .ensures .the-ways-from-the-section)),
     )
 
 pub returns : need.returns
-returns c = λ a h. c .loop-a .inv .1 a (omega arith)
+returns c = record { the-ways-from-each-section = (λ a h. c .loop-a .inv .1 a (omega arith)) }

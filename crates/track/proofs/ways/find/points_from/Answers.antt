@@ -17,8 +17,8 @@ loop-b-again c =
       simp length-set (c .loop-b .inv .0),
       below-more _ _
           (λ k h. let ne : k ≢ b = omega arith in getD-set-other row b k new None ne ∙ c .loop-b .inv .1 k h)
-          (getD-set-same row b new None inside ∙ c .points-in .ensures),
+          (getD-set-same row b new None inside ∙ c .points-in .ensures .the-points-of-the-first-that-leads-there),
     )
 
 pub returns : need.returns
-returns c = λ b h. c .loop-b .inv .1 b (omega arith)
+returns c = record { the-points-to-each-section = (λ b h. c .loop-b .inv .1 b (omega arith)) }

@@ -19,7 +19,7 @@ returns-in-None g c =
         subst (λ n. n ≤ c .args .self .now .most) (H .size) (c .if-chosen-self .left),
         refl,
         none-lawful (g .R·Rule .conflicts (c .args .rule .now)) (c .args .question .now) (c .choose-chosen .result) H (g .S·Scale .measure (c .args .scale .now)) (g .S·Scale·met .lawful (c .args .scale .now))
-            (g .R·Rule·met .lawful (c .args .rule .now) (c .args .question .now .layout .now)) (c .in-None .ensures tt),
+            (g .R·Rule·met .lawful (c .args .rule .now) (c .args .question .now .layout .now)) (c .in-None .ensures tt .the-least-cost-and-the-first-word-of-it),
       );
     }
 
@@ -31,6 +31,6 @@ returns-in-Some g c =
       the-answer-is-right = (
         subst (λ n. n ≤ c .args .self .now .most) (H .size) (c .if-chosen-self .left),
         solved-by (g .R·Rule .conflicts (c .args .rule .now)) (c .args .question .now) (c .choose-chosen .result) H (g .S·Scale .measure (c .args .scale .now)) (g .S·Scale·met .lawful (c .args .scale .now))
-            (g .R·Rule·met .lawful (c .args .rule .now) (c .args .question .now .layout .now)) (c .in-Some .found) (c .args .sheet .now) (c .write .last .sheet) (c .in-Some .ensures tt) (c .write .ensures .the-plan-and-nothing-else-is-written),
+            (g .R·Rule·met .lawful (c .args .rule .now) (c .args .question .now .layout .now)) (c .in-Some .found) (c .args .sheet .now) (c .write .last .sheet) (c .in-Some .ensures tt .the-least-cost-and-the-first-word-of-it) (c .write .ensures .the-plan-and-nothing-else-is-written),
       );
     }
