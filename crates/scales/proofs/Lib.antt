@@ -2,3 +2,4 @@ pub mod Joins
 pub mod StepLaws
 pub mod PairLaws
 pub mod Written
+pub mod LeastRuns

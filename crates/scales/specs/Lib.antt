@@ -2,3 +2,4 @@ pub mod Measure
 pub mod Steps
 pub mod Pairs
 pub mod Bytes
+pub mod Runs

@@ -1,4 +1,5 @@
 // Scales of costs: what a step costs, which of two costs is lower, and what two make together.
+pub mod least;
 pub mod pair;
 pub mod pair_of;
 pub mod printed;

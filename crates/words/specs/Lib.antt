@@ -4,3 +4,4 @@ pub mod Bridge
 pub mod Gathering
 pub mod Tasks
 pub mod Rows
+pub mod Rests

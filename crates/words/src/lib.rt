@@ -4,4 +4,5 @@ pub mod choose;
 pub mod chosen;
 pub mod found;
 pub mod moves;
+pub mod rests;
 pub mod written;

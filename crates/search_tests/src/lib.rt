@@ -1,4 +1,4 @@
-// Worked examples of the walk search, with answers that were found by hand.
+// Worked examples of the searches, with answers that were found by hand.
 use track::drawing::Drawing;
 use track::layout::Layout;
 use track::refusal::Refusal;

@@ -21,6 +21,8 @@ use sheets::sheet::Sheet;
 use sheets::sheet::SheetDebug;
 use sheets::sheet::SheetPartialEq;
 use std::test::*;
+use table::search::TableSearch;
+use table::table::Table;
 use track::refusal::Refusal;
 use track::refusal::RefusalDebug;
 use track::refusal::RefusalPartialEq;
@@ -52,8 +54,9 @@ fn row(sections: &[u8]) -> [u8; 17] {
     all
 }
 
-// The answer to all trains of a roster together, and the sheet.
-fn planned<S: Scale, R: Rule>(
+// The answer of a search to all trains of a roster together, and the sheet.
+fn planned<S: Scale, R: Rule, Q: Search<S>>(
+    search: &mut Q,
     rule: &R,
     scale: &S,
     cells: &mut [Option<S::Cost>],
@@ -74,15 +77,40 @@ fn planned<S: Scale, R: Rule>(
         7 < count,
     ];
     let question = ask(&layout, &roster, group, steps)?;
-    let mut walk = Walk::new(2)?;
     let mut sheet = BLANK;
-    let answer = walk.search(rule, scale, &question, cells, &mut sheet);
+    let answer = search.search(rule, scale, &question, cells, &mut sheet);
+    Ok((answer, sheet))
+}
+
+// The walk's answer by steps; the table's with just so many cells is the same, and with one fewer the group is beyond its reach.
+fn by_both<R: Rule>(
+    rule: &R,
+    cells: &mut [Option<u16>],
+    trains: &[Train],
+    steps: usize,
+) -> Result<(Answer<u16>, Sheet), Fail> {
+    let mut walk = Walk::new(2)?;
+    let (answer, sheet) = planned(&mut walk, rule, &Steps, &mut [None], trains, steps)?;
+    let (again, same) = planned(&mut Table, rule, &Steps, cells, trains, steps)?;
+    check(again == answer)?;
+    check_eq(same, sheet)?;
+    let fewer = cells.len().saturating_sub(1);
+    let (beyond, untouched) = planned(
+        &mut Table,
+        rule,
+        &Steps,
+        &mut cells[0..fewer],
+        trains,
+        steps,
+    )?;
+    check(beyond == Answer::BeyondReach)?;
+    check_eq(untouched, BLANK)?;
     Ok((answer, sheet))
 }
 
 #[test]
 fn alone_by_steps() -> Result<(), Fail> {
-    let (answer, sheet) = planned(&Following, &Steps, &mut [None], &[SEVEN], 4)?;
+    let (answer, sheet) = by_both(&Following, &mut [None; 25], &[SEVEN], 4)?;
     check(answer == Answer::Found(3))?;
     check_eq(sheet.rows[0], row(&[0, 1, 2, 3, 3]))?;
     check_eq(sheet.rows[1], BLANK.rows[1])
@@ -90,7 +118,15 @@ fn alone_by_steps() -> Result<(), Fail> {
 
 #[test]
 fn alone_by_points() -> Result<(), Fail> {
-    let (answer, sheet) = planned(&Following, &StepsThenPoints, &mut [None], &[SEVEN], 4)?;
+    let mut walk = Walk::new(2)?;
+    let (answer, sheet) = planned(
+        &mut walk,
+        &Following,
+        &StepsThenPoints,
+        &mut [None],
+        &[SEVEN],
+        4,
+    )?;
     check(
         answer
             == Answer::Found(Pair {
@@ -98,12 +134,22 @@ fn alone_by_points() -> Result<(), Fail> {
                 points: 2,
             }),
     )?;
-    check_eq(sheet.rows[0], row(&[0, 1, 4, 3, 3]))
+    check_eq(sheet.rows[0], row(&[0, 1, 4, 3, 3]))?;
+    let (again, same) = planned(
+        &mut Table,
+        &Following,
+        &StepsThenPoints,
+        &mut [None; 25],
+        &[SEVEN],
+        4,
+    )?;
+    check(again == answer)?;
+    check_eq(same, sheet)
 }
 
 #[test]
 fn two_following() -> Result<(), Fail> {
-    let (answer, sheet) = planned(&Following, &Steps, &mut [None], &[SEVEN, NINE], 4)?;
+    let (answer, sheet) = by_both(&Following, &mut [None; 125], &[SEVEN, NINE], 4)?;
     check(answer == Answer::Found(6))?;
     check_eq(sheet.rows[0], row(&[0, 1, 4, 3, 3]))?;
     check_eq(sheet.rows[1], row(&[3, 2, 1, 0, 0]))
@@ -111,7 +157,7 @@ fn two_following() -> Result<(), Fail> {
 
 #[test]
 fn two_with_clear_sections() -> Result<(), Fail> {
-    let (answer, sheet) = planned(&ClearSection, &Steps, &mut [None], &[NINE, SEVEN], 4)?;
+    let (answer, sheet) = by_both(&ClearSection, &mut [None; 125], &[NINE, SEVEN], 4)?;
     check(answer == Answer::Found(7))?;
     check_eq(sheet.rows[0], row(&[0, 1, 4, 3, 3]))?;
     check_eq(sheet.rows[1], row(&[3, 2, 2, 1, 0]))
@@ -119,7 +165,7 @@ fn two_with_clear_sections() -> Result<(), Fail> {
 
 #[test]
 fn none_in_three_steps() -> Result<(), Fail> {
-    let (answer, sheet) = planned(&ClearSection, &Steps, &mut [None], &[SEVEN, NINE], 3)?;
+    let (answer, sheet) = by_both(&ClearSection, &mut [None; 100], &[SEVEN, NINE], 3)?;
     check(answer == Answer::NoSheet)?;
     check_eq(sheet, BLANK)
 }

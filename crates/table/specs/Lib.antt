@@ -1,0 +1,4 @@
+pub mod Candidates
+pub mod Codes
+pub mod Steps
+pub mod Columns
