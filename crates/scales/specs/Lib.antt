@@ -3,3 +3,4 @@ pub mod Steps
 pub mod Pairs
 pub mod Bytes
 pub mod Runs
+pub mod Cells

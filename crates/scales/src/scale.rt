@@ -1,4 +1,5 @@
 ghost use mathlib.Core.Path.{_≡_};
+ghost use Rattle.scales.specs.Cells.{RunFits};
 ghost use Rattle.scales.specs.Measure.{Measure, MeasureLaws};
 
 // A scale, by the measure that it stands for. Every measure keeps the laws.
@@ -8,6 +9,9 @@ pub trait Scale {
     ghost measure: { Self → Measure Self·Cost };
 
     law lawful: { (s : Self) → MeasureLaws (measure s) };
+
+    // a run of cells fits in memory
+    law small: { RunFits Self·Cost·row };
 
     fn lower(&self, a: Self::Cost, b: Self::Cost) -> bool
         ensures whether_the_first_is_lower { λ r. ⌜ r ≡ measure (now (self .entry)) .lower a b ⌝ };

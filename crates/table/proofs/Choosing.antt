@@ -1,30 +1,25 @@
 -- The search of one joint step: a turn of its loop, its end and its last train.
 use mathlib.Core.Path.{_≡_, refl, sym, _∙_, ap, ap₂, subst}
-use mathlib.Core.Bool.{Bool, true, false, cond, _&&_, not}
-use mathlib.Core.Logic.{_⊎_, inl, inr, ⊎-elim, _≢_}
+use mathlib.Core.Bool.{Bool, true, false, cond, _&&_}
+use mathlib.Core.Logic.{_⊎_, ⊎-elim, _≢_}
 use mathlib.Core.List.{List, [], _∷_, _++_}
-use Prim.Native.Nat.{ℕ, zero, suc, _+_, _-_, _*_, _<_, _≤_}
-use native.Mathlib.Nat.{mul-add}
+use Prim.Native.Nat.{ℕ, zero, suc, _+_, _*_, _<_, _≤_}
 use native.Mathlib.Numerals.{add-one}
 use native.Mathlib.Omega.{arith}
 use lib.Dec.{eqb}
-use lib.ListN.{length, getD, take, set, length-set}
-use lib.Seq.{take-suc-set, length-take-le, getD-take, getD-set-same, getD-set-other, append-snoc}
-use Rattle.std.specs.Options.{isSome}
+use lib.ListN.{length, getD, take, set, length-set, replicate}
+use lib.Seq.{take-suc-set, length-take-le, getD-take, getD-set-same, getD-set-other}
 use Rattle.std.specs.declared.option.Option.{Option}
 use Rattle.std.specs.declared.option.Option.the-variants.{Some, None}
-use Rattle.std.proofs.shelf.Tests.{eq-eqb, ne-eqb, and-left, cases-lt, both-ways}
+use Rattle.std.proofs.shelf.Tests.{eq-eqb, ne-eqb, and-left, cases-lt}
 use Rattle.scales.specs.Measure.{Measure, MeasureLaws}
 use Rattle.scales.specs.Runs.{FirstLeast}
-use Rattle.words.specs.Words.{FirstOf, Firstly, with, least, first, rest, best, choice}
-use Rattle.words.specs.Joint.{Task, Joint, turned, clear, mayMove, movePrice, process}
+use Rattle.words.specs.Words.{with, least, first, rest}
+use Rattle.words.specs.Joint.{Task, turned, clear, mayMove, movePrice, process}
 use Rattle.words.specs.Tasks.{begin}
-use Rattle.words.specs.Rests.{On, Knows}
-use Rattle.words.proofs.Least.{some≢none, some-same, firstly}
-use Rattle.words.proofs.BestWords.{choice-some}
 use Rattle.sheets.proofs.Alls.{all-same}
 use Rattle.table.specs.Candidates.{Candidates}
-use Rattle.table.specs.Steps.{todo, moveCost, costIn, MovesTo, Ready, Picked, Can, Stepped, pickAt, PlaceIn}
+use Rattle.table.specs.Steps.{todo, moveCost, costIn, MovesTo, Ready, Picked, PlaceIn, LeastTried}
 use Rattle.table.specs.declared.pick.Pick.{Pick}
 use Rattle.table.specs.declared.tries.Tries.{Tries}
 use Rattle.table.proofs.Tryings.{tried-cost, tried-moves}
@@ -35,9 +30,32 @@ turned-full k p q e = let b = eq-eqb (length q) k e in simp b
 pub turned-part : (k : ℕ) (p q : List ℕ) → length q < k → turned k p q ≡ record { at = p; to = q }
 turned-part k p q h = let b = ne-eqb (length q) k (λ e. omega arith) in simp b
 
--- of the first i candidates, the first of the least
-abbrev pub Scanned : {C : Type 0} → Measure C → Task → (left j : ℕ) (at to : List ℕ) → Tries → (i : ℕ) → Option (ℕ × C) → Type 0
-Scanned S K left j at to t i best = FirstLeast S i (λ p. moveCost S K left j at to (getD (t .section) p 0)) best
+pub nones : {C : Type 0} (n p : ℕ) → getD (replicate {A = Option C} n None) p None ≡ None
+nones zero p = refl
+nones (suc n) zero = refl
+nones (suc n) (suc p) = nones n p
+
+-- the cells of the first i candidates are filled, and those after them are empty
+pub record Filling {C : Type 0} (S : Measure C) (K : Task) (left j : ℕ) (at to : List ℕ) (t : Tries) (i : ℕ) (run : List (Option C)) : Type 0 where
+  pub long : length run ≡ 33
+  pub filled : (p : ℕ) → p < i → getD run p None ≡ moveCost S K left j at to (getD (t .section) p 0)
+  pub empty : (p : ℕ) → i ≤ p → getD run p None ≡ None
+
+-- the first of the least, of cells that are the same
+pub least-same : {C : Type 0} (S : Measure C) (n m : ℕ) (f g : ℕ → Option C) (r : Option (ℕ × C)) → m ≡ n → ((i : ℕ) → i < n → f i ≡ g i) → FirstLeast S m f r → FirstLeast S n g r
+least-same S n m f g None e h F = λ i l. sym (h i l) ∙ F i (omega arith)
+least-same S n m f g (Some p) e h F = record {
+  within = omega (arith, F .within);
+  here = sym (h (p .0) (omega (arith, F .within))) ∙ F .here;
+  earlier = λ i d l q. F .earlier i d l (h i (omega (arith, F .within)) ∙ q);
+  every = λ i d l q. F .every i d (omega arith) (h i l ∙ q);
+}
+
+pub least-part : {C : Type 0} (S : Measure C) (n : ℕ) (part run : List (Option C)) (r : Option (ℕ × C)) → part ≡ take n run → n ≤ length run
+    → FirstLeast S (length part) (λ i. getD part i None) r → FirstLeast S n (λ i. getD run i None) r
+least-part S n part run r e h F =
+    least-same S n (length part) (λ i. getD part i None) (λ i. getD run i None) r (ap length e ∙ length-take-le n run h)
+    (λ i l. ap (λ z. getD z i None) e ∙ getD-take n run i None l) F
 
 pub place-in : {C : Type 0} (S : Measure C) (n m : ℕ) (run : ℕ → Option C) (r : Option (ℕ × C)) → n ≤ m → FirstLeast S n run r → PlaceIn m r
 place-in S n m run None h F = tt
@@ -81,21 +99,42 @@ module _ {C : Type 0} (S : Measure C) (K : Task) (left j : ℕ) (at to : List �
   pub row-none : (x : ℕ) → mayMove K at to j x ≡ false → None ≡ row x
   row-none x e = sym (row-is x ∙ ap (λ m. cond m (with S (movePrice S K at j x) (rest S (process S K) (todo K left (j + 1)) (turned (K .trains) (take (K .trains) at) (take j to ++ (x ∷ []))))) None) e)
 
-  todo-is : todo K left j ≡ suc (todo K left (j + 1))
-  todo-is = omega arith
+  module _ (t : Tries) where
+    pub fill-start : (run : List (Option C)) → length run ≡ 33 → ((p : ℕ) → getD run p None ≡ None) → Filling S K left j at to t 0 run
+    fill-start run l e = record { long = l; filled = λ p h. absurd (omega arith); empty = λ p h. e p }
 
-  -- the first of the least of all candidates is the best move
-  pub picked-all : (L : MeasureLaws S) (reach : ℕ → Bool) → ((x : ℕ) → reach x ≡ false → K .opens (getD at j 0) x ≡ false) → (t : Tries) (r : Option (ℕ × C)) → Candidates (K .sections) reach t → Scanned S K left j at to t (t .count) r
-      → Picked S K left j at to (pickAt t r)
-  unfolding rest process
-  picked-all L reach wide t r T F =
-      let l : length (take j to) ≡ j = length-take-le j to (omega arith) in
-      let u : turned (K .trains) (take (K .trains) at) (take j to) ≡ record { at = take (K .trains) at; to = take j to } = turned-part (K .trains) _ _ (omega arith) in
-      let m = todo-is in
-      record {
-        cost = rw (u, m) (tried-cost S L (K .sections) reach t T row (λ x e. row-shut x (wide x e)) r F);
-        goes = λ h. tried-moves S L (K .sections) reach t T row (λ x e. row-shut x (wide x e)) r F;
-      }
+    pub fill-skip : (i : ℕ) (run : List (Option C)) → Filling S K left j at to t i run → None ≡ row (getD (t .section) i 0) → Filling S K left j at to t (i + 1) run
+    fill-skip i run F e = record {
+      long = F .long;
+      filled = λ p h. ⊎-elim (λ l. F .filled p l)
+          (λ l. let q : i ≡ p = omega arith in subst (λ z. getD run z None ≡ row (getD (t .section) z 0)) q (F .empty i (omega arith) ∙ e)) (cases-lt p i);
+      empty = λ p h. F .empty p (omega arith);
+    }
+
+    pub fill-put : (i : ℕ) (run : List (Option C)) (v : Option C) → i < 33 → Filling S K left j at to t i run → v ≡ row (getD (t .section) i 0) → Filling S K left j at to t (i + 1) (set run i v)
+    fill-put i run v h33 F e = record {
+      long = length-set run i v ∙ F .long;
+      filled = λ p h. ⊎-elim (λ l. let ne : p ≢ i = (λ q. omega arith) in getD-set-other run i p v None ne ∙ F .filled p l)
+          (λ l. let q : i ≡ p = omega arith in subst (λ z. getD (set run i v) z None ≡ row (getD (t .section) z 0)) q (getD-set-same run i v None (omega (arith, F .long)) ∙ e)) (cases-lt p i);
+      empty = λ p h. (let ne : p ≢ i = (λ q. omega arith) in getD-set-other run i p v None ne ∙ F .empty p (omega arith));
+    }
+
+    todo-is : todo K left j ≡ suc (todo K left (j + 1))
+    todo-is = omega arith
+
+    -- the first of the least of the cells is the best move
+    pub picked-all : (L : MeasureLaws S) (reach : ℕ → Bool) → ((x : ℕ) → reach x ≡ false → K .opens (getD at j 0) x ≡ false) → (run : List (Option C)) (r : Option (Pick C)) → Candidates (K .sections) reach t → Filling S K left j at to t (t .count) run
+        → LeastTried S t run r → Picked S K left j at to r
+    unfolding rest process
+    picked-all L reach wide run r T F W =
+        let l : length (take j to) ≡ j = length-take-le j to (omega arith) in
+        let u : turned (K .trains) (take (K .trains) at) (take j to) ≡ record { at = take (K .trains) at; to = take j to } = turned-part (K .trains) _ _ (omega arith) in
+        let m = todo-is in
+        let A = least-same S (t .count) (t .count) (λ i. getD run i None) (λ i. row (getD (t .section) i 0)) (W .found) refl (F .filled) (W .least) in
+        record {
+          cost = ap costIn (W .pick) ∙ rw (u, m) (tried-cost S L (K .sections) reach t T row (λ x e. row-shut x (wide x e)) (W .found) A);
+          goes = λ h. subst (λ z. MovesTo z (first S (K .sections) row)) (sym (W .pick)) (tried-moves S L (K .sections) reach t T row (λ x e. row-shut x (wide x e)) (W .found) A);
+        }
 
 -- all trains have moved: what is known says what is left
 pub picked-end : {C : Type 0} (S : Measure C) (K : Task) (left j : ℕ) (at to : List ℕ) (o : Option C) (r : Option (Pick C)) → j ≡ K .trains → K .trains ≤ length to

@@ -27,7 +27,8 @@ module _ (x : ℕ) (reach : ℕ → Bool) (t : Tries) (T : Candidates x reach t)
 
   pub try-skip : reach x ≡ false → Candidates (x + 1) reach t
   try-skip e = record {
-    few = omega (arith, T .few);
+    few = T .few;
+    most = omega (arith, T .most);
     long = T .long;
     rising = T .rising;
     inside = λ i h. omega (arith, T .inside i h);
@@ -49,7 +50,8 @@ module _ (x : ℕ) (reach : ℕ → Bool) (t : Tries) (T : Candidates x reach t)
 
     pub try-more : Candidates (x + 1) reach (oneMore t x)
     try-more = record {
-      few = omega (arith, T .few);
+      few = omega arith;
+      most = omega (arith, T .most);
       long = length-set (t .section) (t .count) x ∙ T .long;
       rising = up;
       inside = λ i h. split (λ z. getD (set (t .section) (t .count) x) z 0 < x + 1) (t .count) i h (λ k. rw (earlier i k) (omega (arith, T .inside i k))) (rw last (omega arith));
@@ -61,6 +63,7 @@ module _ (x : ℕ) (reach : ℕ → Bool) (t : Tries) (T : Candidates x reach t)
 pub try-none : (reach : ℕ → Bool) (t : Tries) → t .count ≡ 0 → length (t .section) ≡ 33 → Candidates 0 reach t
 try-none reach t z l = record {
   few = omega arith;
+  most = omega arith;
   long = l;
   rising = λ i j a b. absurd (omega arith);
   inside = λ i h. absurd (omega arith);

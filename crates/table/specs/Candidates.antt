@@ -15,7 +15,8 @@ reached l a x = eqb a x || isSome (look l a x)
 
 -- sections below n in rising order, and every one in reach is among them
 pub record Candidates (n : ℕ) (reach : ℕ → Bool) (t : Tries) : Type 0 where
-  pub few : t .count ≤ n
+  pub few : t .count ≤ 33
+  pub most : t .count ≤ n
   pub long : length (t .section) ≡ 33
   pub rising : (i j : ℕ) → i < j → j < t .count → getD (t .section) i 0 < getD (t .section) j 0
   pub inside : (i : ℕ) → i < t .count → getD (t .section) i 0 < n

@@ -1,13 +1,14 @@
 -- What the search of one joint step answers.
 use mathlib.Core.Path.{_≡_}
-use mathlib.Core.Bool.{Bool, true}
-use mathlib.Core.List.{List, [], _++_}
+use mathlib.Core.Bool.{true}
+use mathlib.Core.List.{List, _++_}
 use Prim.Native.Nat.{ℕ, _+_, _-_, _*_, _<_, _≤_}
-use lib.ListN.{length, getD, take}
+use lib.ListN.{getD, take}
 use Rattle.std.specs.Options.{isSome}
 use Rattle.std.specs.declared.option.Option.{Option}
 use Rattle.std.specs.declared.option.Option.the-variants.{Some, None}
 use Rattle.scales.specs.Measure.{Measure}
+use Rattle.scales.specs.Runs.{FirstLeast}
 use Rattle.words.specs.Words.{rest, best, first, choice}
 use Rattle.words.specs.Joint.{Task, turned, process}
 use Rattle.words.specs.Tasks.{begin}
@@ -63,3 +64,9 @@ pickAt t (Some p) = Some (record { cost = p .1; section = getD (t .section) (p .
 abbrev pub PlaceIn : {C : Type 0} → ℕ → Option (ℕ × C) → Type 0
 PlaceIn n None = Unit {0}
 PlaceIn n (Some p) = p .0 < n
+
+-- the first of the least of the cells tried, as a move
+pub record LeastTried {C : Type 0} (S : Measure C) (t : Tries) (run : List (Option C)) (r : Option (Pick C)) : Type 0 where
+  pub found : Option (ℕ × C)
+  pub least : FirstLeast S (t .count) (λ i. getD run i None) found
+  pub pick : r ≡ pickAt t found

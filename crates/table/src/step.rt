@@ -5,12 +5,12 @@ ghost use Rattle.words.specs.Words.{with};
 ghost use Rattle.words.specs.Joint.{movePrice};
 ghost use Rattle.words.specs.Rests.{Knows};
 ghost use Rattle.words.specs.Tasks.{taskOf};
-ghost use Rattle.table.specs.Steps.{costIn, pickAt, PlaceIn, Ready, Picked, Can, Stepped};
+ghost use Rattle.table.specs.Steps.{costIn, pickAt, PlaceIn, LeastTried, Ready, Picked, Can, Stepped};
 use crate::candidates::candidates;
 use crate::pick::Pick;
 use crate::tries::Tries;
 use rules::rule::Rule;
-use scales::least::lower_of;
+use scales::least::first_least;
 use scales::scale::Scale;
 use words::board::Board;
 use words::moves::may_move;
@@ -67,6 +67,16 @@ fn pick_at<C: Copy>(tries: Tries, found: Option<(usize, C)>) -> Option<Pick<C>>
     }
 }
 
+// Of the moves tried, the first of the least.
+fn least_of<S: Scale>(scale: &S, tries: Tries, run: [Option<S::Cost>; 33]) -> Option<Pick<S::Cost>>
+    requires { ⌜ tries .count ≤ 33 ⌝ }
+    ensures the_first_of_the_least_of_the_moves_tried { λ r. ⌜ LeastTried (S·Scale .measure (now (scale .entry))) tries run r ⌝ }
+{
+    let whole: &[Option<S::Cost>] = &run;
+    let count = tries.count;
+    pick_at(tries, first_least(scale, &whole[0..count]))
+}
+
 // The best move of the train j where the trains before it have moved already: the least of its price and of what is still to come,
 // and the lowest section that makes it up.
 pub(crate) fn best_move<S: Scale, R: Rule, N: Rests<S::Cost>>(
@@ -85,18 +95,17 @@ pub(crate) fn best_move<S: Scale, R: Rule, N: Rests<S::Cost>>(
         return arrived(rests.rest(left, to));
     }
     let tries = candidates(board.layout, at[j]);
-    let mut best = None;
+    let mut run = [None; 33];
     for i in 0..tries.count {
         let x = tries.section[i];
         if may_move(board, at, to, j, x) {
             let mut next = to;
             next[j] = x;
             let rest = cost_in(best_move(board, rests, left, at, next, j + 1));
-            let cell = with_price(board, at, j, x, rest);
-            best = lower_of(board.scale, best, i, cell);
+            run[i] = with_price(board, at, j, x, rest);
         }
     }
-    pick_at(tries, best)
+    least_of(board.scale, tries, run)
 }
 
 // The joint step to take from here: of those whose price and rest make up the least cost the first,
