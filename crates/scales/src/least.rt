@@ -5,7 +5,7 @@ ghost use Rattle.scales.specs.Runs.{FirstLeast, nearer};
 use crate::scale::Scale;
 
 // The lower of the best so far and of the cell at i; a tie keeps the earlier place.
-pub fn lower_of<S: Scale>(
+fn lower_of<S: Scale>(
     scale: &S,
     best: Option<(usize, S::Cost)>,
     i: usize,

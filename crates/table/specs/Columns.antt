@@ -6,6 +6,7 @@ use lib.ListN.{length, getD}
 use Rattle.std.specs.declared.option.Option.{Option}
 use Rattle.std.specs.declared.option.Option.the-variants.{None}
 use Rattle.scales.specs.Measure.{Measure}
+use Rattle.sheets.specs.Inquiry.{Inquiry, trains}
 use Rattle.words.specs.Words.{rest}
 use Rattle.words.specs.Joint.{Task, process}
 use Rattle.table.specs.Codes.{digits, codeOf}
@@ -46,3 +47,7 @@ pub record Within {C : Type 0} (f : Filled C) (left : ℕ) (at : List ℕ) : Typ
 -- what it says
 abbrev pub cellAt : {C : Type 0} → Filled C → (left : ℕ) → List ℕ → Option C
 cellAt f left at = getD (f .cells .now) (left * f .size + codeOf (f .sections) (f .trains) at) None
+
+-- a cell for each time and each joint position of the group's trains
+abbrev pub Enough : {C : Type 0} → Inquiry C → ℕ → Type 0
+Enough i cells = i .problem .sections ^ trains i * (i .problem .steps + 1) ≤ cells

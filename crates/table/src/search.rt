@@ -3,10 +3,11 @@ ghost use Prim.Native.Nat.{_+_, _*_, _^_, _≤_};
 ghost use lib.ListN.{length};
 ghost use Rattle.roster.specs.Model.{rowsOf};
 ghost use Rattle.track.specs.Layouts.{sectionsOf};
-ghost use Rattle.sheets.specs.Inquiry.{trains};
+ghost use Rattle.search.specs.Answers.{Answered};
+ghost use Rattle.sheets.specs.Inquiry.{inquiry, trains};
 ghost use Rattle.words.specs.Rows.{ChosenTo};
 ghost use Rattle.words.specs.Tasks.{taskOf, Solution};
-ghost use Rattle.table.specs.Columns.{KeptFrom};
+ghost use Rattle.table.specs.Columns.{Enough, KeptFrom};
 use crate::codes::power;
 use crate::fill::fill;
 use crate::filled::Filled;
@@ -60,9 +61,34 @@ fn best_of<S: Scale, R: Rule>(
     read_off(&board, &filled, question.steps, start)
 }
 
+// Asks for the best sheet of the question's group, in the first of the cells.
+pub fn plan<S: Scale, R: Rule>(
+    rule: &R,
+    scale: &S,
+    question: &Question,
+    cells: &mut [Option<S::Cost>],
+    sheet: &mut Sheet,
+) -> Answer<S::Cost>
+    ensures the_answer_is_right { λ r. ⌜ Answered (inquiry (R·Rule .conflicts (now (rule .entry))) (S·Scale .measure (now (scale .entry))) (now (question .entry))) (Enough (inquiry (R·Rule .conflicts (now (rule .entry))) (S·Scale .measure (now (scale .entry))) (now (question .entry))) (length (now (cells .entry)))) (now (sheet .entry)) (now (sheet .exit)) r ⌝ }
+    ensures the_cells_beyond_its_own_are_left_alone { λ _. ⌜ KeptFrom (sectionsOf (now (question .entry) .layout .now) ^ trains (inquiry (R·Rule .conflicts (now (rule .entry))) (S·Scale .measure (now (scale .entry))) (now (question .entry))) * (now (question .entry) .steps + 1)) (now (cells .entry)) (now (cells .exit)) ⌝ }
+{
+    let chosen = choose(question);
+    let size = power(question.layout.sections(), chosen.trains);
+    if size * (question.steps + 1) > cells.len() {
+        return Answer::BeyondReach;
+    }
+    match best_of(rule, scale, question, chosen, cells, size) {
+        None => Answer::NoSheet,
+        Some(found) => {
+            write(sheet, chosen, found.plan, question.steps);
+            Answer::Found(found.cost)
+        }
+    }
+}
+
 pub impl<S: Scale> Search<S> for Table as TableSearch {
     // it takes a group exactly if there is a cell for each time and each joint position of its trains
-    ghost takes = { λ _ i cells. i .problem .sections ^ trains i * (i .problem .steps + 1) ≤ cells };
+    ghost takes = { λ _ i cells. Enough i cells };
 
     fn search<R: Rule>(
         &mut self,
@@ -72,17 +98,6 @@ pub impl<S: Scale> Search<S> for Table as TableSearch {
         cells: &mut [Option<S::Cost>],
         sheet: &mut Sheet,
     ) -> Answer<S::Cost> {
-        let chosen = choose(question);
-        let size = power(question.layout.sections(), chosen.trains);
-        if size * (question.steps + 1) > cells.len() {
-            return Answer::BeyondReach;
-        }
-        match best_of(rule, scale, question, chosen, cells, size) {
-            None => Answer::NoSheet,
-            Some(found) => {
-                write(sheet, chosen, found.plan, question.steps);
-                Answer::Found(found.cost)
-            }
-        }
+        plan(rule, scale, question, cells, sheet)
     }
 }
