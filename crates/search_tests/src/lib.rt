@@ -1,4 +1,4 @@
-// Worked examples of the searches, with answers that were found by hand.
+// Worked examples of the searches; an enumeration of all sheets gives the same answers.
 use track::drawing::Drawing;
 use track::layout::Layout;
 use track::refusal::Refusal;
