@@ -1,4 +1,6 @@
 // The walk and the table search on growing throats: what they answer, and with the argument `run` how long they take.
+#![tactic(auto)]
+
 use anyhow::anyhow;
 use roster::roster::Roster;
 use roster::train::Train;

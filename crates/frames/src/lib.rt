@@ -1,4 +1,6 @@
 // Frames as lines of text: reading them, printing the replies, and cutting bytes into lines.
+#![tactic(auto)]
+
 pub mod cutter;
 mod digits;
 pub mod fields;

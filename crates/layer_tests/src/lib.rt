@@ -1,4 +1,6 @@
 // Worked examples of the layers over the searches: the grouping and the single-train check.
+#![tactic(auto)]
+
 use track::drawing::Drawing;
 use track::layout::Layout;
 use track::refusal::Refusal;

@@ -1,4 +1,6 @@
 // The machine that does frames: it draws until the finish, and plans after it.
+#![tactic(auto)]
+
 pub mod desk;
 pub mod phase;
 pub mod said;

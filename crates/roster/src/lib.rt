@@ -1,3 +1,5 @@
 // The trains to be planned, and the sections closed to them.
+#![tactic(auto)]
+
 pub mod roster;
 pub mod train;

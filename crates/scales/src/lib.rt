@@ -1,4 +1,6 @@
 // Scales of costs: what a step costs, which of two costs is lower, and what two make together.
+#![tactic(auto)]
+
 pub mod least;
 pub mod pair;
 pub mod pair_of;

@@ -1,4 +1,6 @@
 // Worked examples of the searches; an enumeration of all sheets gives the same answers.
+#![tactic(auto)]
+
 use track::drawing::Drawing;
 use track::layout::Layout;
 use track::refusal::Refusal;

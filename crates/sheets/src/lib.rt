@@ -1,4 +1,6 @@
 // Sheets and questions: which sheets are lawful, what they cost, which comes first and which is best.
+#![tactic(auto)]
+
 pub mod agree;
 pub mod pose;
 pub mod price;

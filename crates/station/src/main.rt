@@ -1,5 +1,7 @@
 // A shift at a station: trains are entered and withdrawn, a section is closed and opened again, and sheets are planned, under both scales.
 // Prints each call with its reply, and each sheet.
+#![tactic(auto)]
+
 use single_check::check::Check;
 use planner::note::Note;
 use planner::order::{Order, Told};

@@ -1,5 +1,7 @@
 // The table search: it works out the least cost of what is still to come, for each joint position of a group and each number of steps left,
 // and reads the best sheet off these costs.
+#![tactic(auto)]
+
 pub mod candidates;
 pub mod codes;
 pub mod fill;

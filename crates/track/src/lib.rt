@@ -1,3 +1,5 @@
+#![tactic(auto)]
+
 pub mod drawing;
 pub mod foul;
 pub mod layout;

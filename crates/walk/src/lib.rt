@@ -1,4 +1,6 @@
 // The walk search: it tries the sheets of a group in their order, and keeps the first of the least.
+#![tactic(auto)]
+
 pub mod bounds;
 pub mod explore;
 pub mod make;

@@ -1,4 +1,6 @@
 // From an empty drawing to a printed plan: a small throat, two trains that meet in it, and the walk search.
+#![tactic(auto)]
+
 use roster::roster::Roster;
 use roster::train::Train;
 use rules::clear_section::ClearSection;
