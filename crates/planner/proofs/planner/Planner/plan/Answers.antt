@@ -5,35 +5,35 @@ use Rattle.planner.specs.History.{meaning}
 use Rattle.planner.proofs.Planning.{is_declined, is_asked, is_answered}
 use Rattle.planner.proofs.planner.Planner.plan.Goals as goal
 
-pub returns-in-err-check_plan : goal.returns-in-err-check_plan
-returns-in-err-check_plan g c =
+pub returns-in_err-check_plan : goal.returns-in_err-check_plan
+returns-in_err-check_plan g c =
     let k = meaning g.R.Rule.conflicts g.S.Scale.measure g.Q.Search.takes in
-    let r = err_from_is_err_and c.from-residual.result c.from-residual.ensures.1 in
+    let r = err_from_is_err_and c.from_residual.result c.from_residual.ensures.1 in
     let d =
     is_declined k c.args.self.now _ refl refl refl refl c.args.steps (length c.args.cells.now) refl (number_of r.0) c.args.sheet.now
-    (rw r.2 c.in-err-check_plan.ensures.the_first_condition_met_declines) in
+    (rw r.2 c.in_err-check_plan.ensures.the_first_condition_met_declines) in
     record { a_refusal_of_the_book_or_the_answer_of_the_grouping = rw r.1 d.answer; planning_leaves_the_book = refl; the_reply_is_kept_after_any_calls = rw r.1 d.step }
 
-pub returns-in-err-question : goal.returns-in-err-question
-returns-in-err-question g c =
+pub returns-in_err-question : goal.returns-in_err-question
+returns-in_err-question g c =
     let k = meaning g.R.Rule.conflicts g.S.Scale.measure g.Q.Search.takes in
     let p = c.args.self.now in
     absurd
     (is_asked k p p refl refl refl refl c.args.steps (length c.args.cells.now)
-    c.in-ok-check_plan.ensures.the_first_condition_met_declines
+    c.in_ok-check_plan.ensures.the_first_condition_met_declines
     c.count.result c.count.ensures.as_many_as_the_book_has c.marks_on-marks.result c.marks_on-marks.ensures.the_group_of_all_trains
-    (number_of c.in-err-question.field-0.0) c.in-err-question.ensures.the_first_condition_met_declines)
+    (number_of c.in_err-question.field-0.0) c.in_err-question.ensures.the_first_condition_met_declines)
 
 pub returns : goal.returns
 returns g c =
     let k = meaning g.R.Rule.conflicts g.S.Scale.measure g.Q.Search.takes in
-    let asks = c.in-ok-question.ensures.the_question_is_as_asked in
+    let asks = c.in_ok-question.ensures.the_question_is_as_asked in
     let d =
     is_answered k c.args.self.now _ refl refl refl refl c.args.steps (length c.args.cells.now)
-    c.in-ok-check_plan.ensures.the_first_condition_met_declines
+    c.in_ok-check_plan.ensures.the_first_condition_met_declines
     c.count.result c.count.ensures.as_many_as_the_book_has c.marks_on-marks.result c.marks_on-marks.ensures.the_group_of_all_trains
     g.met.R.Rule.lawful g.met.S.Scale.lawful c.plan-answer.ensures.asking_leaves_the_meaning
-    c.in-ok-question.question asks.0 asks.1 asks.2 asks.3
+    c.in_ok-question.question asks.0 asks.1 asks.2 asks.3
     c.args.sheet.now c.plan-answer.new.sheet c.plan-answer.result c.plan-answer.ensures.the_answer_is_how_the_course_ends
     _ c.reply_to.ensures.the_answer_as_a_reply in
     record { a_refusal_of_the_book_or_the_answer_of_the_grouping = d.answer; planning_leaves_the_book = refl; the_reply_is_kept_after_any_calls = d.step }

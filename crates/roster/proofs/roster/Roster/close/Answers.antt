@@ -17,7 +17,14 @@ pub invariant_of-self : goal.invariant_of-self
 invariant_of-self c =
     let r = c.args.self.now in
     let s = c.args.section in
-    (r.room, (r.ordered, (r.numbered, (r.starts, (r.goals, (open_closed r.closed _ s (put r.closed s (omega arith)) (held r) (sym c.if-start_taken.ensures.whether_a_train_has_the_start) (sym c.if-goal_taken.ensures.whether_a_train_has_the_goal) r.free, tt))))))
+    record {
+      room = r.room;
+      ordered = r.ordered;
+      numbered = r.numbered;
+      starts = r.starts;
+      goals = r.goals;
+      free = open_closed r.closed _ s (put r.closed s (omega arith)) (held r) (sym c.if-start_taken.ensures.whether_a_train_has_the_start) (sym c.if-goal_taken.ensures.whether_a_train_has_the_goal) r.free;
+    }
 
 pub returns : goal.returns
 returns c =

@@ -21,7 +21,14 @@ invariant_of-self c =
     let d = apart_entered goal_of t (held r) r.goals (sym c.if-goal_taken.ensures.whether_a_train_has_the_goal) in
     let k : runs r.closed t ≡ true = and_from _ _ (ap not (sym c.if-has.ensures.whether_the_bit_is_set)) (ap not (sym c.if-has-2.ensures.whether_the_bit_is_set)) in
     let o = open_entered r.closed t (held r) r.free k in
-    (omega arith, (ap rising e ∙ a, (ap all_numbered e ∙ m, (ap (apart_by start_of) e ∙ b, (ap (apart_by goal_of) e ∙ d, (ap (all_open r.closed) e ∙ o, tt))))))
+    record {
+      room = omega arith;
+      ordered = ap rising e ∙ a;
+      numbered = ap all_numbered e ∙ m;
+      starts = ap (apart_by start_of) e ∙ b;
+      goals = ap (apart_by goal_of) e ∙ d;
+      free = ap (all_open r.closed) e ∙ o;
+    }
 
 pub returns : goal.returns
 returns c =

@@ -21,21 +21,21 @@ loop-train-preserved c =
     let i = c.loop-train.train-index in
     let b = seen c.loop-train.roster in
     let l : i < length ts = omega arith in
-    let a = sym c.in-ok-enter.ensures.the_first_condition_met_declines in
-    let e = c.in-ok-enter.ensures.a_refusal_changes_nothing in (
+    let a = sym c.in_ok-enter.ensures.the_first_condition_met_declines in
+    let e = c.in_ok-enter.ensures.a_refusal_changes_nothing in (
       ap (λ (k : Book). first_declined n k (drop (i + 1) ts)) e ∙ sym (first_on n b ts i _ l a) ∙ c.loop-train.invariant.0,
       ap (λ (k : Book). entered_all n k (drop (i + 1) ts)) e ∙ sym (all_on n b ts i _ l a) ∙ c.loop-train.invariant.1,
     )
 
-pub returns-in-err-enter : goal.returns-in-err-enter
-returns-in-err-enter c =
+pub returns-in_err-enter : goal.returns-in_err-enter
+returns-in_err-enter c =
     let n = sections_of c.args.layout.now in
     let ts = c.args.trains.now in
     let i = c.loop-train.train-index in
     let b = seen c.loop-train.roster in
     let l : i < length ts = omega arith in
-    let a = sym c.in-err-enter.ensures.the_first_condition_met_declines in
-    let p = err_from_is_err_and c.from-residual.result c.from-residual.ensures.1 in
+    let a = sym c.in_err-enter.ensures.the_first_condition_met_declines in
+    let p = err_from_is_err_and c.from_residual.result c.from_residual.ensures.1 in
     record {
       the_first_entry_declined_tells_why = rw (p.1, p.2) (sym (first_here n b ts i _ _ l a) ∙ c.loop-train.invariant.0);
       a_roster_of_all_the_trains = rw p.1 tt;

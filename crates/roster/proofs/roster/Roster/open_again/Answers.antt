@@ -18,7 +18,14 @@ invariant_of-self c =
     let r = c.args.self.now in
     let s = c.args.section in
     let h : has r.closed s ≡ true = sym c.if-not-has.ensures.whether_the_bit_is_set in
-    (r.room, (r.ordered, (r.numbered, (r.starts, (r.goals, (open_opened r.closed _ s (put r.closed s (omega arith) h) (held r) r.free, tt))))))
+    record {
+      room = r.room;
+      ordered = r.ordered;
+      numbered = r.numbered;
+      starts = r.starts;
+      goals = r.goals;
+      free = open_opened r.closed _ s (put r.closed s (omega arith) h) (held r) r.free;
+    }
 
 pub returns : goal.returns
 returns c =

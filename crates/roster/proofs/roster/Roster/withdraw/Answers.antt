@@ -22,7 +22,14 @@ invariant_of-self c =
     let g = gone v (held r) 0 c.in-Some.p (sym c.in-Some.ensures.the_first_row_with_the_number) in
     let z : c.in-Some.p ≡ c.in-Some.p - 0 = omega arith in
     let e : take (r.count - 1) c.remove_at.new.table ≡ without v (held r) = c.remove_at.ensures.the_place_is_gone ∙ ap (λ (i : ℕ). remove (held r) i) z ∙ g.is in
-    (omega arith, (ap rising e ∙ rising_without v (held r) r.ordered, (ap all_numbered e ∙ numbered_without v (held r) r.numbered, (ap (apart_by start_of) e ∙ apart_without start_of v (held r) r.starts, (ap (apart_by goal_of) e ∙ apart_without goal_of v (held r) r.goals, (ap (all_open r.closed) e ∙ open_without r.closed v (held r) r.free, tt))))))
+    record {
+      room = omega arith;
+      ordered = ap rising e ∙ rising_without v (held r) r.ordered;
+      numbered = ap all_numbered e ∙ numbered_without v (held r) r.numbered;
+      starts = ap (apart_by start_of) e ∙ apart_without start_of v (held r) r.starts;
+      goals = ap (apart_by goal_of) e ∙ apart_without goal_of v (held r) r.goals;
+      free = ap (all_open r.closed) e ∙ open_without r.closed v (held r) r.free;
+    }
 
 pub returns-in-Some : goal.returns-in-Some
 returns-in-Some c =

@@ -23,7 +23,15 @@ invariant_of-self c =
     let fine : foul_good ls x ≡ true = and_from _ _ one (and_from _ _ other (ap not two)) in
     let placed = ap (fouls_good ls) more ∙ fouls_good_push ls fs x w.placed fine in
     let once = ap fouls_apart more ∙ fouls_apart_push fs x w.once new in
-    (w.few, (w.roomy, (w.sound, (w.apart, (omega arith, (placed, (once, tt)))))))
+    record {
+      few = w.few;
+      roomy = w.roomy;
+      sound = w.sound;
+      apart = w.apart;
+      roomier = omega arith;
+      placed = placed;
+      once = once;
+    }
 
 pub returns : goal.returns
 returns c =

@@ -21,7 +21,15 @@ invariant_of-self c =
     let sound = ap (links_good d.sections) more ∙ links_good_push d.sections ls x d.sound fine in
     let apart = ap links_apart more ∙ links_apart_push ls x d.apart new in
     let placed = ap (λ l. fouls_good l fs) more ∙ fouls_kept ls x fs d.placed in
-    (d.few, (omega arith, (sound, (apart, (d.roomier, (placed, (d.once, tt)))))))
+    record {
+      few = d.few;
+      roomy = omega arith;
+      sound = sound;
+      apart = apart;
+      roomier = d.roomier;
+      placed = placed;
+      once = d.once;
+    }
 
 pub returns : goal.returns
 returns c =

@@ -6,4 +6,12 @@ pub invariant_of-self : goal.invariant_of-self
 invariant_of-self c =
     let d = c.args.self.now in
     let sound = links_good_wider d.sections c.args.k (take d.link_count d.links) d.sound in
-    (omega arith, (d.roomy, (sound, (d.apart, (d.roomier, (d.placed, (d.once, tt)))))))
+    record {
+      few = omega arith;
+      roomy = d.roomy;
+      sound = sound;
+      apart = d.apart;
+      roomier = d.roomier;
+      placed = d.placed;
+      once = d.once;
+    }

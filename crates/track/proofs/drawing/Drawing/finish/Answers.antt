@@ -12,7 +12,16 @@ invariant_of-result c =
     let all : n ≡ n - 0 = omega arith in
     let ways = c.chart-ways.result in
     let led = ap (λ k. charted (take k d.links) ways) all ∙ charted_from (take (n - 0) d.links) ways c.chart-ways.ensures.the_ways_from_each_section in
-    (d.few, (d.roomy, (d.sound, (d.apart, (d.roomier, (d.placed, (d.once, (led, tt))))))))
+    record {
+      few = d.few;
+      roomy = d.roomy;
+      sound = d.sound;
+      apart = d.apart;
+      roomier = d.roomier;
+      placed = d.placed;
+      once = d.once;
+      led = led;
+    }
 
 pub returns : goal.returns
 returns c =
