@@ -6,8 +6,8 @@ use Rattle.sheets.proofs.Posed.{sound}
 use Rattle.sheets.proofs.Alls.{all_more, all_false, all_to}
 use Rattle.sheets.proofs.agree.same_rows.Goals as goal
 
-pub overflow-add-question : goal.overflow-add-question
-overflow-add-question c = omega (arith, (sound c.args.question.now).steps_most)
+pub overflow_add-question : goal.overflow_add-question
+overflow_add-question c = omega (arith, (sound c.args.question.now).steps_most)
 
 pub same_row-same-requires : goal.same_row-same-requires
 same_row-same-requires c = omega (arith, (sound c.args.question.now).steps_most)

@@ -45,4 +45,4 @@ none c =
     simp (a, b, s, m)
 
 pub invariant_of-result : goal.invariant_of-result
-invariant_of-result c = (none c, tt)
+invariant_of-result c = record { sound = none c }

@@ -8,8 +8,8 @@ use Rattle.single_check.proofs.reach.fewest_between.Goals as goal
 pub bounds-reached-start : goal.bounds-reached-start
 bounds-reached-start c = omega (arith, c.requires.start_inside, sections_most c.args.question.now.layout.now)
 
-pub overflow-add-times : goal.overflow-add-times
-overflow-add-times c = omega (arith, (sound c.args.question.now).steps_most)
+pub overflow_add-times : goal.overflow_add-times
+overflow_add-times c = omega (arith, (sound c.args.question.now).steps_most)
 
 pub loop-steps-init : goal.loop-steps-init
 loop-steps-init c =

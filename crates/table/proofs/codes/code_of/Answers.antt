@@ -7,13 +7,13 @@ pub loop-i-init : goal.loop-i-init
 unfolding code_of
 loop-i-init c = refl
 
-pub overflow-mul-code : goal.overflow-mul-code
-overflow-mul-code c =
+pub overflow_mul-code : goal.overflow_mul-code
+overflow_mul-code c =
     let e = ap (λ z. z * c.args.n) c.loop-i.invariant in
     omega (arith, code_fits c.args.n c.args.at c.loop-i.i c.args.k c.requires.0 c.requires.1.0 c.loop-i-test.true c.requires.1.1)
 
-pub overflow-add-code : goal.overflow-add-code
-overflow-add-code c =
+pub overflow_add-code : goal.overflow_add-code
+overflow_add-code c =
     let e = ap (λ z. z * c.args.n) c.loop-i.invariant in
     omega (arith, code_fits c.args.n c.args.at c.loop-i.i c.args.k c.requires.0 c.requires.1.0 c.loop-i-test.true c.requires.1.1)
 

@@ -23,8 +23,8 @@ joint_step-next-requires g c = record {
   can = follow_can _ _ c.args.steps c.args.start c.loop-t.t c.loop-t.at c.loop-t.plan c.loop-t-test.true c.loop-t.invariant;
 }
 
-pub overflow-mul-board : goal.overflow-mul-board
-overflow-mul-board g c =
+pub overflow_mul-board : goal.overflow_mul-board
+overflow_mul-board g c =
     let h : c.loop-t.t ≤ 16 = omega (arith, c.loop-t-test.true, c.requires.few) in
     let m : c.args.board.now.trains * c.loop-t.t ≤ 8 * 16 = mul-le-mul c.requires.ready.trains_most h in
     omega arith

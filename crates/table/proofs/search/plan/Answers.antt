@@ -9,11 +9,11 @@ use Rattle.table.proofs.search.plan.Goals as goal
 pub power-size-requires : goal.power-size-requires
 power-size-requires g c = (c.sections.ensures.at_most_thirty_two, trains_most (g.R.Rule.conflicts c.args.rule.now) c.args.question.now c.choose-chosen.result c.choose-chosen.ensures.the_rows_of_the_group_in_rising_order)
 
-pub overflow-add-question : goal.overflow-add-question
-overflow-add-question g c = omega (arith, (sound c.args.question.now).steps_most)
+pub overflow_add-question : goal.overflow_add-question
+overflow_add-question g c = omega (arith, (sound c.args.question.now).steps_most)
 
-pub overflow-mul-size : goal.overflow-mul-size
-overflow-mul-size g c =
+pub overflow_mul-size : goal.overflow_mul-size
+overflow_mul-size g c =
     let H = c.choose-chosen.ensures.the_rows_of_the_group_in_rising_order in
     let e = c.power-size.ensures.as_many_as_there_are_joint_positions ∙ ap (λ n. n ^ c.choose-chosen.result.trains) c.sections.ensures.how_many_sections_there_are in
     omega (arith, cells_fit (g.R.Rule.conflicts c.args.rule.now) c.args.question.now c.choose-chosen.result H c.power-size.result e)

@@ -35,8 +35,8 @@ best_move-requires g t c κs within =
     let k = c.requires.knows in
     search rules
 
-pub offset-bounds-run-i : goal.offset-bounds-run-i
-offset-bounds-run-i g t c =
+pub offset_bounds-run-i : goal.offset_bounds-run-i
+offset_bounds-run-i g t c =
     let T = c.candidates-tries.ensures.every_section_in_reach_in_rising_order in
     let h : c.loop-i.i < 33 = omega (arith, T.few, c.loop-i-test.true) in
     scaled_Fits c.loop-i.i 33 _ h g.met.S.Scale.small

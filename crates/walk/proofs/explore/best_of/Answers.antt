@@ -3,8 +3,8 @@ use Rattle.sheets.proofs.Posed.{sound}
 use Rattle.walk.proofs.Whole.{ready, solution}
 use Rattle.walk.proofs.explore.best_of.Goals as goal
 
-pub overflow-sub-question : goal.overflow-sub-question
-overflow-sub-question g c = (sound c.args.question.now).steps_some
+pub overflow_sub-question : goal.overflow_sub-question
+overflow_sub-question g c = (sound c.args.question.now).steps_some
 
 pub explore-requires : goal.explore-requires
 explore-requires g c =

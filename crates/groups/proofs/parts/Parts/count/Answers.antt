@@ -11,8 +11,8 @@ pub loop-row-init : goal.loop-row-init
 unfolding parts
 loop-row-init c = (refl, omega arith)
 
-pub overflow-add-count : goal.overflow-add-count
-overflow-add-count c = omega (arith, c.loop-row.invariant.1, c.count-row-end.ensures.at_most_eight)
+pub overflow_add-count : goal.overflow_add-count
+overflow_add-count c = omega (arith, c.loop-row.invariant.1, c.count-row-end.ensures.at_most_eight)
 
 pub loop-row-preserved : goal.loop-row-preserved
 unfolding parts

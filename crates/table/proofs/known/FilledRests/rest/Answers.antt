@@ -4,22 +4,22 @@ use Rattle.table.specs.Codes.{code_of}
 use Rattle.table.proofs.Numbers.{code_below}
 use Rattle.table.proofs.known.FilledRests.rest.Goals as goal
 
-pub overflow-mul-result : goal.overflow-mul-result
-overflow-mul-result g c =
+pub overflow_mul-result : goal.overflow_mul-result
+overflow_mul-result g c =
     let r = c.requires.room in
     let l : length c.args.self.now.cells.now < 2 ^ 64 = search rules in
     omega arith
 
-pub overflow-add-result : goal.overflow-add-result
-overflow-add-result g c =
+pub overflow_add-result : goal.overflow_add-result
+overflow_add-result g c =
     let b = code_below c.args.self.now.sections c.args.at c.args.self.now.trains c.requires.inside in
     let r = c.requires.room in
     let s = c.requires.size-is in
     let l : length c.args.self.now.cells.now < 2 ^ 64 = search rules in
     omega (arith, c.code_of-code.ensures.the_code_of_the_position)
 
-pub offset-bounds-self-left : goal.offset-bounds-self-left
-offset-bounds-self-left g c =
+pub offset_bounds-self-left : goal.offset_bounds-self-left
+offset_bounds-self-left g c =
     let b = code_below c.args.self.now.sections c.args.at c.args.self.now.trains c.requires.inside in
     let r = c.requires.room in
     let s = c.requires.size-is in
