@@ -1,5 +1,5 @@
 -- The set digits of a number, by place.
-use Rattle.std.proofs.Common.{◌≡◌, ℕ, zero, suc, ◌+◌, ◌-◌, ◌*◌, ◌/◌, ◌%◌, ◌^◌, ◌<◌, ◌≤◌, max, Bool, true, false, cond, ◌||◌, eqb, ◌⊎◌, sym, refl, ap, ◌∙◌, inl, inr, ⊎_elim, pow-suc, div-one, one-add, arith, pow_mono}
+use Rattle.std.proofs.Common.{◌≡◌, ℕ, zero, suc, ◌+◌, ◌*◌, ◌/◌, ◌%◌, ◌^◌, ◌<◌, ◌≤◌, true, false, cond, ◌||◌, eqb, sym, refl, ap, ◌∙◌, pow-suc, div-one, one-add, arith, pow_mono}
 use native.Mathlib.Nat.{zero-div, div-eq_of_lt, mod-one}
 use lib.Bits.{bit_or, shifted_half, shifted_even}
 use lib.Count.{ones, count_trailing_zeros, under, ones_cat}

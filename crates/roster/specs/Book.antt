@@ -1,5 +1,5 @@
 -- The book: what a list of calls amounts to, worked out from the number of sections of the layout and from the arguments alone.
-use Rattle.std.specs.Prelude.{ℕ, zero, suc, ◌+◌, ◌*◌, Bool, true, false, cond, not, ◌&&◌, ◌||◌, List, [], ◌∷◌, length, Some, None, Option, ◌==◌, nat_le, nat_lt}
+use Rattle.std.specs.Prelude.{ℕ, zero, suc, ◌+◌, ◌*◌, Bool, false, cond, not, ◌&&◌, ◌||◌, List, [], ◌∷◌, length, Some, None, Option, ◌==◌, nat_le, nat_lt}
 use Rattle.roster.specs.declared.train.Train.{Train}
 use Rattle.track.specs.Refusals.{met}
 use Rattle.roster.specs.Trains.{no_number, number_of, start_of, goal_of, taken, entered, without}

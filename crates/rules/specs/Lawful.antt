@@ -1,8 +1,8 @@
 -- Both rules keep the laws, whichever links foul, as long as fouls go both ways.
-use Rattle.std.specs.Prelude.{◌≡◌, ℕ, Bool, true, false, not, ◌&&◌, ◌||◌, eqb, refl}
-use Rattle.std.proofs.Common.{sym, ap, ◌∙◌, arith}
+use Rattle.std.specs.Prelude.{◌≡◌, ℕ}
+use Rattle.std.proofs.Common.{arith}
 use Rattle.std.proofs.lemmas.Bool.Decides.{nat_tests}
-use Rattle.rules.specs.Conflicts.{Conflicts, RuleLaws, runs, crossing, following, clear_section}
+use Rattle.rules.specs.Conflicts.{Conflicts, RuleLaws, crossing, following, clear_section}
 
 module _ (fouls : Conflicts) (swapped : (a b c d : ℕ) → fouls a b c d ≡ fouls c d a b) where
   crossing_swapped : (a b c d : ℕ) → crossing fouls a b c d ≡ crossing fouls c d a b

@@ -1,5 +1,5 @@
 -- Laws of costs joined over a range.
-use Rattle.std.proofs.Common.{◌≡◌, ℕ, zero, suc, ◌+◌, ◌*◌, ◌<◌, ◌≤◌, true, false, ◌⊎◌, sym, refl, ap, ◌∙◌, ap₂, inl, inr, true≢false, add-one, arith}
+use Rattle.std.proofs.Common.{◌≡◌, ℕ, zero, suc, ◌+◌, ◌*◌, ◌<◌, ◌≤◌, true, ◌⊎◌, sym, refl, ap, ◌∙◌, ap₂, inl, inr, true≢false, add-one, arith}
 use Rattle.scales.specs.Measure.{Measure, MeasureLaws, Fit, joined}
 
 -- one cost more

@@ -1,9 +1,9 @@
 -- The scale of steps, then points keeps the laws.
-use Rattle.std.specs.Prelude.{◌≡◌, ℕ, ◌+◌, ◌<◌, ◌≤◌, Bool, true, false, cond, ◌&&◌, ◌||◌, eqb, ltb, ◌⊎◌, refl}
-use Rattle.std.proofs.Common.{sym, ap, ◌∙◌, inl, inr, ⊎_elim, arith}
+use Rattle.std.specs.Prelude.{◌≡◌, ℕ, ◌+◌, ◌<◌, ◌≤◌, Bool, true, false, cond, ◌⊎◌, refl}
+use Rattle.std.proofs.Common.{sym, inl, inr, arith}
 use Rattle.std.proofs.lemmas.Bool.{cases_order}
 use Rattle.std.proofs.lemmas.Bool.Decides.{nat_tests}
-use Rattle.scales.specs.Measure.{Measure, MeasureLaws}
+use Rattle.scales.specs.Measure.{MeasureLaws}
 use Rattle.scales.specs.Steps.{plus}
 use Rattle.scales.specs.Pairs.{pair, pair_lower, pairs}
 use Rattle.scales.specs.declared.pair.Pair.{Pair}

@@ -1,8 +1,8 @@
 -- The scale of steps keeps the laws.
-use Rattle.std.specs.Prelude.{◌≡◌, ℕ, ◌+◌, ◌<◌, ◌≤◌, Bool, true, false, cond, ◌⊎◌, refl}
-use Rattle.std.proofs.Common.{inl, inr, ⊎_elim, arith, ltb-true, ltb-false, lt-ltb, le-ltb}
+use Rattle.std.specs.Prelude.{ℕ, ◌≤◌, Bool, true, false, cond, refl}
+use Rattle.std.proofs.Common.{inl, inr, ⊎_elim, arith, ltb-true, lt-ltb, le-ltb}
 use Rattle.std.proofs.lemmas.Bool.{cases_order}
-use Rattle.scales.specs.Measure.{Measure, MeasureLaws}
+use Rattle.scales.specs.Measure.{MeasureLaws}
 use Rattle.scales.specs.Steps.{steps, plus}
 
 small : (p : ℕ) (h : Bool) → p ≤ 7 → cond h 0 1 ≤ 16

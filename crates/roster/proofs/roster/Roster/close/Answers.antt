@@ -1,11 +1,10 @@
-use Rattle.std.proofs.Common.{◌≡◌, ℕ, ◌*◌, ◌%◌, ◌^◌, ◌<◌, Bool, true, false, ◌||◌, eqb, leb, sym, refl, ap, ◌∙◌, arith}
+use Rattle.std.proofs.Common.{◌≡◌, ℕ, ◌*◌, ◌%◌, ◌^◌, ◌<◌, Bool, false, ◌||◌, eqb, leb, sym, ap, ◌∙◌, arith}
 use mathlib.Core.Path.{fun_ext}
 use lib.Bits.{bit_or}
 use Rattle.std.proofs.lemmas.Nat.{shl_whole}
 use Rattle.std.proofs.lemmas.Bool.Decides.{nat_tests}
 use Rattle.track.specs.Layouts.{sections_of}
 use Rattle.roster.specs.Trains.{has, taken, start_of, goal_of}
-use Rattle.roster.specs.Book.{Book}
 use Rattle.roster.specs.Model.{held}
 use Rattle.roster.proofs.Masks.{has_closed, open_closed}
 use Rattle.roster.proofs.roster.Roster.close.Goals as goal

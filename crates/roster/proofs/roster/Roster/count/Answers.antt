@@ -1,4 +1,4 @@
-use Rattle.std.proofs.Common.{◌≡◌, ℕ, ◌-◌, length, take, ap, rules}
+use Rattle.std.proofs.Common.{ℕ, length, take, ap, rules}
 use native.Mathlib.Nat.{sub-zero}
 use Rattle.roster.specs.Model.{rows_of}
 use Rattle.roster.proofs.roster.Roster.count.Goals as goal

@@ -1,11 +1,10 @@
-use Rattle.std.proofs.Common.{◌≡◌, ℕ, ◌+◌, ◌≤◌, Bool, true, false, not, ◌&&◌, ◌||◌, leb, List, length, take, sym, refl, ap, ◌∙◌, arith, rules}
+use Rattle.std.proofs.Common.{◌≡◌, ℕ, ◌+◌, true, false, not, ◌||◌, leb, List, length, take, sym, ap, ◌∙◌, arith}
 use Rattle.std.specs.List.{insert}
 use Rattle.std.proofs.lemmas.Bool.Decides.{nat_tests}
 use Rattle.std.proofs.lemmas.Bool.{and_from}
 use Rattle.roster.specs.declared.train.Train.{Train}
 use Rattle.track.specs.Layouts.{sections_of}
 use Rattle.roster.specs.Trains.{rising, no_number, all_numbered, taken, apart_by, runs, all_open, entered, number_of, start_of, goal_of, has}
-use Rattle.roster.specs.Book.{Book}
 use Rattle.roster.specs.Model.{held}
 use Rattle.roster.proofs.Entering.{rising_entered, numbered_entered, apart_entered, open_entered, inserted_entered}
 use Rattle.roster.proofs.roster.Roster.enter.Goals as goal

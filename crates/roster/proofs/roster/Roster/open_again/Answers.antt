@@ -1,11 +1,10 @@
-use Rattle.std.proofs.Common.{◌≡◌, ℕ, ◌*◌, ◌%◌, ◌^◌, ◌<◌, Bool, true, false, not, ◌&&◌, eqb, leb, sym, refl, ap, ◌∙◌, arith}
+use Rattle.std.proofs.Common.{◌≡◌, ℕ, ◌*◌, ◌%◌, ◌^◌, ◌<◌, Bool, true, false, not, ◌&&◌, eqb, leb, sym, ap, ◌∙◌, arith}
 use mathlib.Core.Path.{fun_ext}
 use lib.Bits.{bit_xor}
 use Rattle.std.proofs.lemmas.Nat.{shl_whole}
 use Rattle.std.proofs.lemmas.Bool.Decides.{nat_tests}
 use Rattle.track.specs.Layouts.{sections_of}
 use Rattle.roster.specs.Trains.{has}
-use Rattle.roster.specs.Book.{Book}
 use Rattle.roster.specs.Model.{held}
 use Rattle.roster.proofs.Masks.{has_opened, open_opened}
 use Rattle.roster.proofs.roster.Roster.open_again.Goals as goal

@@ -1,10 +1,7 @@
-use Rattle.std.proofs.Common.{◌≡◌, ℕ, ◌+◌, ◌-◌, ◌<◌, ◌≤◌, Bool, true, false, cond, not, List, length, take, sym, refl, ap, ◌∙◌, arith, rules}
+use Rattle.std.proofs.Common.{◌≡◌, ℕ, ◌-◌, false, List, take, sym, refl, ap, ◌∙◌, arith}
 use Rattle.std.specs.List.{remove}
 use Rattle.std.proofs.lemmas.List.{length-take}
-use Rattle.std.proofs.lemmas.Bool.{cond-true, cond-false}
-use Rattle.std.proofs.lemmas.Bool.Decides.{nat_tests}
-use Rattle.roster.specs.Trains.{rising, no_number, all_numbered, taken, apart_by, all_open, without, number_of, start_of, goal_of, has}
-use Rattle.roster.specs.Book.{Book}
+use Rattle.roster.specs.Trains.{rising, no_number, all_numbered, apart_by, all_open, without, start_of, goal_of, has}
 use Rattle.roster.specs.Model.{held}
 use Rattle.roster.proofs.Leaving.{gone, absent, rising_without, numbered_without, apart_without, open_without}
 use Rattle.roster.proofs.roster.Roster.withdraw.Goals as goal
