@@ -1,7 +1,7 @@
 -- Two sheets that are the same at each place looked at count as one, and others do not.
-use Rattle.std.proofs.Common.{◌≡◌, ℕ, ◌+◌, ◌<◌, ◌≤◌, Bool, true, false, not, ◌||◌, eqb, sym, refl, ap, ◌∙◌, arith}
+use Rattle.std.proofs.Common.{◌≡◌, ℕ, ◌+◌, Bool, true, false, not, ◌||◌, refl, arith}
 use Rattle.std.proofs.lemmas.Bool.{eqb-true, eq-eqb}
-use Rattle.sheets.specs.Problem.{Problem, Group, Member, all}
+use Rattle.sheets.specs.Problem.{Problem, Group}
 use Rattle.sheets.specs.Plan.{Plan, SameOn}
 use Rattle.sheets.specs.Theorems.{Same, same_rows}
 use Rattle.sheets.proofs.Alls.{all_at, all_from}

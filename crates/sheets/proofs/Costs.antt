@@ -1,7 +1,7 @@
 -- The costs of groups.
-use Rattle.std.proofs.Common.{◌≡◌, ℕ, zero, suc, ◌+◌, ◌*◌, ◌<◌, ◌≤◌, Bool, true, false, cond, refl, arith}
+use Rattle.std.proofs.Common.{◌≡◌, ℕ, ◌+◌, ◌≤◌, Bool, true, false, cond, refl, arith}
 use Rattle.scales.specs.Measure.{Measure, MeasureLaws}
-use Rattle.sheets.specs.Problem.{Group, Problem, ProblemLaws, Member}
+use Rattle.sheets.specs.Problem.{Group, Problem, ProblemLaws}
 use Rattle.sheets.specs.Plan.{Plan, SameOn, step_cost, row_cost, cost}
 use Rattle.scales.proofs.Joins.{joined_size, joined_same}
 

@@ -1,6 +1,6 @@
 -- Whether a sheet is lawful for a group can be told.
-use Rattle.std.proofs.Common.{◌≡◌, ℕ, zero, suc, ◌+◌, ◌<◌, ◌≤◌, Bool, true, false, ◌⊎◌, inl, inr, arith}
-use Rattle.std.proofs.lemmas.Bool.{cases_Bool, cases_eq, cases_lt, both_ways}
+use Rattle.std.proofs.Common.{◌≡◌, ℕ, suc, ◌+◌, ◌<◌, ◌≤◌, Bool, true, false, ◌⊎◌, inl, inr, arith}
+use Rattle.std.proofs.lemmas.Bool.{cases_eq, cases_lt, both_ways}
 use Rattle.sheets.specs.Problem.{Group, Problem, Member, allowed}
 use Rattle.sheets.specs.Plan.{Plan, Lawful, clash}
 use Rattle.sheets.proofs.Least.{least}

@@ -1,8 +1,8 @@
 -- A group has a best sheet, or none that is lawful.
-use Rattle.std.proofs.Common.{◌≡◌, ℕ, zero, suc, ◌+◌, ◌<◌, ◌≤◌, min, Bool, true, false, cond, ◌&&◌, eqb, ltb, leb, ◌⊎◌, sym, refl, ap, ◌∙◌, inl, inr, arith}
-use Rattle.std.proofs.lemmas.Bool.{cases_order, cases_eq, cases_lt, cond-true, cond-false, and_from, and_left, and_right, eq-eqb, ne_eqb, lt-ltb, le-ltb}
+use Rattle.std.proofs.Common.{◌≡◌, ℕ, zero, suc, ◌<◌, ◌≤◌, min, cond, ◌&&◌, eqb, ltb, ◌⊎◌, sym, refl, ◌∙◌, inl, inr, arith}
+use Rattle.std.proofs.lemmas.Bool.{cases_eq, cases_lt, cond-true, cond-false, and_from, and_left, and_right, eq-eqb, ne_eqb, lt-ltb, le-ltb}
 use Rattle.scales.specs.Measure.{Measure, MeasureLaws}
-use Rattle.sheets.specs.Problem.{Group, Problem, ProblemLaws, Member}
+use Rattle.sheets.specs.Problem.{Group, Problem, ProblemLaws}
 use Rattle.sheets.specs.Plan.{Plan, Lawful, SameOn, Wins, Best}
 use Rattle.sheets.specs.Plan.{Without}
 use Rattle.sheets.proofs.Places.{same_sym}

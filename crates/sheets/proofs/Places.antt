@@ -1,7 +1,7 @@
 -- Places, and sheets that come before others.
-use Rattle.std.proofs.Common.{◌≡◌, ℕ, ◌+◌, ◌<◌, ◌≤◌, ◌⊎◌, sym, refl, ◌∙◌, inl, inr, arith}
+use Rattle.std.proofs.Common.{◌≡◌, ℕ, ◌<◌, ◌≤◌, ◌⊎◌, sym, inl, inr, arith}
 use Rattle.std.proofs.lemmas.Bool.{cases_order}
-use Rattle.sheets.specs.Problem.{Group, Problem, Member}
+use Rattle.sheets.specs.Problem.{Group, Problem}
 use Rattle.sheets.specs.Plan.{Plan, SameOn, Earlier, Before}
 
 pub earlier_trans : (t r u q v p : ℕ) → Earlier t r u q → Earlier u q v p → Earlier t r v p

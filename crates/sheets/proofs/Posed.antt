@@ -1,15 +1,14 @@
 -- What a question's invariant says of its problem.
-use Rattle.std.proofs.Common.{◌≡◌, ℕ, zero, suc, ◌+◌, ◌<◌, ◌≤◌, Bool, true, false, cond, not, ◌&&◌, ◌||◌, eqb, ltb, is_some, Some, None, Option, unwrap_or, sym, refl, ap, ◌∙◌, arith}
-use Rattle.std.proofs.lemmas.Bool.{and_parts, or_parts, ltb-true, ltb-false, eqb-false, not-true, not-false, cond-true, cond-false}
-use Rattle.std.proofs.lemmas.Bool.Decides.{nat_tests}
+use Rattle.std.proofs.Common.{◌≡◌, ℕ, ◌<◌, ◌≤◌, Bool, true, false, cond, not, ◌||◌, eqb, ltb, is_some, Some, None, Option, unwrap_or, refl, arith}
+use Rattle.std.proofs.lemmas.Bool.{and_parts, or_parts, ltb-true, ltb-false, eqb-false, not-false}
 use Rattle.track.specs.Refusals.{met}
-use Rattle.track.specs.Layouts.{sections_of, look}
+use Rattle.track.specs.Layouts.{look}
 use Rattle.track.specs.declared.layout.Layout.{Layout}
 use Rattle.track.proofs.Laws.{look_few}
-use Rattle.roster.specs.Model.{rows_of, start_at, goal_at, closed_of}
+use Rattle.roster.specs.Model.{rows_of}
 use Rattle.roster.proofs.Laws.{rows_most, start_open, goal_open}
 use Rattle.rules.specs.Conflicts.{Conflicts, RuleLaws}
-use Rattle.sheets.specs.Problem.{Problem, ProblemLaws, Posed, count, run_over}
+use Rattle.sheets.specs.Problem.{ProblemLaws, Posed, count}
 use Rattle.sheets.specs.Posing.{marked, all_on, all_rows, question_declined}
 use Rattle.sheets.specs.Inquiry.{problem_of}
 use Rattle.sheets.specs.declared.question.Question.{Question}

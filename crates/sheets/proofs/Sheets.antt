@@ -1,9 +1,9 @@
 -- A best sheet is one alone, and a sheet that counts as one with it is best too.
-use Rattle.std.proofs.Common.{◌≡◌, ℕ, ◌+◌, ◌<◌, ◌≤◌, ◌⊎◌, sym, refl, ◌∙◌, inl, inr, arith}
+use Rattle.std.proofs.Common.{◌+◌, sym, ◌∙◌, inl, inr, arith}
 use Rattle.scales.specs.Measure.{Measure, MeasureLaws}
 use Rattle.scales.proofs.Joins.{lower_not, lower_asym}
-use Rattle.sheets.specs.Problem.{Group, Problem, ProblemLaws, Member}
-use Rattle.sheets.specs.Plan.{Plan, Lawful, SameOn, Earlier, Before, Best, Wins, clash, cost}
+use Rattle.sheets.specs.Problem.{Group, Problem, ProblemLaws}
+use Rattle.sheets.specs.Plan.{Plan, Lawful, SameOn, Before, Best, Wins, cost}
 use Rattle.sheets.proofs.Places.{earlier_time, same_sym, before_never}
 use Rattle.sheets.proofs.Costs.{cost_same}
 

@@ -1,5 +1,5 @@
 -- What a question asks, and what a sheet tells, read off the program's values.
-use Rattle.std.specs.Prelude.{ℕ, Bool, cond, List, [], ◌==◌, slice_index, slice_index_or}
+use Rattle.std.specs.Prelude.{ℕ, cond, [], ◌==◌, slice_index, slice_index_or}
 use Rattle.std.specs.Option.{unwrap_or}
 use Rattle.track.specs.Layouts.{sections_of, look}
 use Rattle.track.specs.declared.layout.Layout.{Layout}

@@ -1,5 +1,5 @@
 -- Which questions can be asked.
-use Rattle.std.specs.Prelude.{ℕ, Bool, true, false, not, ◌&&◌, ◌||◌, List, None, Option, ◌==◌, nat_lt, slice_index_or}
+use Rattle.std.specs.Prelude.{ℕ, Bool, false, not, ◌&&◌, ◌||◌, List, None, Option, ◌==◌, nat_lt, slice_index_or}
 use Rattle.track.specs.Refusals.{met}
 use Rattle.track.specs.Layouts.{sections_of}
 use Rattle.track.specs.declared.layout.Layout.{Layout}

@@ -1,8 +1,8 @@
 -- The best word: each choice is the first of the least, and what follows is best from there.
-use Rattle.std.proofs.Common.{◌≡◌, ℕ, zero, suc, ◌+◌, ◌*◌, ◌<◌, ◌≤◌, Bool, true, false, cond, ◌⊎◌, List, [], ◌∷◌, Some, None, Option, sym, refl, ap, ◌∙◌, subst, inl, inr, ⊎_elim, arith}
+use Rattle.std.proofs.Common.{◌≡◌, ℕ, zero, suc, ◌+◌, ◌*◌, ◌<◌, ◌≤◌, Bool, true, false, cond, List, [], ◌∷◌, Some, None, Option, sym, refl, ap, ◌∙◌, subst, inl, inr, ⊎_elim, arith}
 use Rattle.std.proofs.lemmas.Bool.{cases_order}
 use Rattle.scales.specs.Measure.{Measure, MeasureLaws}
-use Rattle.words.specs.Words.{Process, Run, spent, Ahead, Beats, BestWord, Answers, FirstOf, Firstly, least, first, with, rest, best, choice}
+use Rattle.words.specs.Words.{Process, Run, spent, Beats, BestWord, Answers, FirstOf, Firstly, least, first, with, rest, best, choice}
 use Rattle.words.proofs.Least.{some≢none, some_same, NoHigher, lower_no_higher, no_higher_trans, firstly}
 
 -- what a choice that can be made is

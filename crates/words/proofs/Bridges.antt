@@ -1,14 +1,13 @@
 -- Sheets of a group and words of its process: the same laws, costs, order and best.
-use Rattle.std.proofs.Common.{◌≡◌, ℕ, zero, suc, ◌+◌, ◌-◌, ◌*◌, ◌<◌, ◌≤◌, Bool, true, false, ◌⊎◌, List, [], ◌∷◌, ◌++◌, get_or, drop, sym, refl, ap, ◌∙◌, subst, ap₂, inl, inr, ⊎_elim, mul-zero, add-one, arith}
+use Rattle.std.proofs.Common.{◌≡◌, ℕ, zero, suc, ◌+◌, ◌*◌, ◌<◌, List, get_or, drop, sym, refl, ap, ◌∙◌, subst, inl, inr, mul-zero, add-one, arith}
 use Rattle.scales.specs.Measure.{Measure, MeasureLaws}
-use Rattle.sheets.specs.Problem.{Problem, ProblemLaws, Posed, Group, Member, everyone}
-use Rattle.sheets.specs.Plan.{Plan, Lawful, Before, SameOn, Best, Wins, cost}
-use Rattle.words.specs.Words.{Process, Run, spent, Ahead, Beats, BestWord}
-use Rattle.words.specs.Joint.{Joint, process}
-use Rattle.words.specs.Bridge.{task_of_problem, Picks, alone, seen, Starts, group_process, group_start, group_word, sheet_word, Bridged, Bridge}
+use Rattle.sheets.specs.Problem.{Problem, ProblemLaws, Posed, Group}
+use Rattle.sheets.specs.Plan.{Plan, Lawful, Before, SameOn, Wins, cost}
+use Rattle.words.specs.Words.{Run, spent, Ahead, Beats}
+use Rattle.words.specs.Bridge.{Picks, alone, seen, Starts, group_process, group_start, group_word, Bridged, Bridge}
 use Rattle.words.proofs.Runs.{lawful_run, run_lawful}
 use Rattle.words.proofs.Spends.{spent_cost}
-use Rattle.words.proofs.Orders.{Gap, gap_of, gap_ahead, sheet_equal, sheet_split}
+use Rattle.words.proofs.Orders.{gap_of, gap_ahead, sheet_equal, sheet_split}
 use Rattle.words.proofs.Picked.{place_row, laws_alone, posed_alone, lawful_alone, alone_lawful, gap_before, before_gap, cost_alone}
 use Rattle.words.proofs.Reading.{run_length, sheet_of, sheet_read}
 

@@ -1,9 +1,9 @@
 -- A group's rows in rising order, as the rows of a question of their own.
-use Rattle.std.proofs.Common.{◌≡◌, ℕ, zero, suc, ◌+◌, ◌-◌, ◌*◌, ◌<◌, ◌≤◌, Bool, true, false, cond, ◌⊎◌, List, [], ◌∷◌, ◌++◌, sym, refl, ap, ◌∙◌, subst, ap₂, inl, inr, ⊎_elim, true≢false, add-one, arith}
+use Rattle.std.proofs.Common.{◌≡◌, ℕ, zero, suc, ◌-◌, ◌*◌, ◌<◌, ◌≤◌, Bool, true, false, cond, sym, refl, ap, ◌∙◌, subst, ap₂, inl, inr, ⊎_elim, true≢false, arith}
 use Rattle.std.proofs.lemmas.Bool.{cases_lt, cases_order, cases_Bool}
 use Rattle.scales.specs.Measure.{Measure, MeasureLaws, joined}
 use Rattle.sheets.specs.Problem.{Problem, ProblemLaws, Posed, Group, Member, everyone}
-use Rattle.sheets.specs.Plan.{Plan, Lawful, Before, SameOn, Earlier, step_cost, row_cost, cost, clash}
+use Rattle.sheets.specs.Plan.{Plan, Lawful, Before, Earlier, row_cost, cost, clash}
 use Rattle.scales.proofs.Joins.{joined_size}
 use Rattle.sheets.proofs.Costs.{row_size}
 use Rattle.words.specs.Bridge.{Picks, alone, seen, Starts}

@@ -1,5 +1,5 @@
 -- Each word of the right length is the word of a sheet.
-use Rattle.std.proofs.Common.{◌≡◌, ℕ, zero, suc, ◌+◌, ◌-◌, ◌*◌, ◌<◌, ◌≤◌, Bool, true, false, cond, List, [], ◌∷◌, ◌++◌, length, get_or, drop, sym, refl, ap, ◌∙◌, subst, ap₂, mul_comm, mul-le-mul, mul-zero, mul-suc, mul-add, add-one, arith, drop-cons}
+use Rattle.std.proofs.Common.{◌≡◌, ℕ, zero, suc, ◌+◌, ◌*◌, ◌<◌, ◌≤◌, List, [], ◌∷◌, ◌++◌, length, get_or, drop, sym, refl, ap, ◌∙◌, ap₂, mul-le-mul, mul-suc, add-one, arith, drop-cons}
 use Rattle.sheets.specs.Plan.{Plan}
 use Rattle.words.specs.Words.{Process, Run}
 use Rattle.words.specs.Bridge.{row_word, sheet_word}

@@ -1,12 +1,12 @@
 -- A lawful sheet of all rows, read by time and then by row, is a run of the process; and back.
-use Rattle.std.proofs.Common.{◌≡◌, ℕ, zero, suc, ◌+◌, ◌-◌, ◌*◌, ◌<◌, ◌≤◌, Bool, true, false, not, ◌&&◌, ◌||◌, eqb, ◌⊎◌, List, [], ◌∷◌, ◌++◌, length, get_or, sym, refl, ap, ◌∙◌, subst, inl, inr, ⊎_elim, mul-zero, mul-suc, add-one, arith, length-append}
+use Rattle.std.proofs.Common.{◌≡◌, ℕ, zero, suc, ◌+◌, ◌*◌, ◌<◌, ◌≤◌, Bool, true, false, not, ◌&&◌, List, [], ◌∷◌, ◌++◌, length, get_or, sym, refl, ◌∙◌, subst, ⊎_elim, mul-zero, mul-suc, add-one, arith, length-append}
 use Rattle.std.proofs.lemmas.List.{get_or_append_left, get_or_at}
-use Rattle.std.proofs.lemmas.Bool.{cases_lt, cases_order, and_from, and_parts, or_left, or_right, eq-eqb, ne_eqb, eqb-true, not_from_false, not-true}
+use Rattle.std.proofs.lemmas.Bool.{cases_lt, cases_order, and_from, and_parts, eq-eqb, ne_eqb, eqb-true, not_from_false, not-true}
 use Rattle.scales.specs.Measure.{Measure}
 use Rattle.sheets.specs.Problem.{all, Problem, ProblemLaws, Posed, Member, everyone, allowed}
 use Rattle.sheets.specs.Plan.{Plan, Lawful, clash}
 use Rattle.words.specs.Words.{Run}
-use Rattle.words.specs.Joint.{Task, Joint, turned, clear, may_move, home, process}
+use Rattle.words.specs.Joint.{Task, turned, clear, may_move, home, process}
 use Rattle.words.specs.Bridge.{counted, task_of_problem, row_word, sheet_word}
 
 pub length_counted : (n : ℕ) (f : ℕ → ℕ) → length (counted n f) ≡ n

@@ -1,5 +1,5 @@
 -- From the least cost and the first word of a group's task to its best sheet.
-use Rattle.std.proofs.Common.{◌≡◌, ℕ, zero, suc, ◌+◌, ◌-◌, ◌*◌, ◌<◌, ◌≤◌, List, [], length, get_or, take, drop, Some, None, Option, sym, refl, ap, ◌∙◌, subst, ap₂, mul-le-mul, mul-zero, mul-suc, add-one, arith, length-take-le, get_or-take}
+use Rattle.std.proofs.Common.{◌≡◌, ℕ, suc, ◌+◌, ◌*◌, ◌<◌, ◌≤◌, List, [], length, get_or, take, drop, Some, None, sym, ap, ◌∙◌, subst, ap₂, mul-le-mul, mul-zero, mul-suc, add-one, arith, length-take-le, get_or-take}
 use Rattle.track.specs.Layouts.{sections_of}
 use Rattle.track.specs.declared.layout.Layout.{Layout}
 use Rattle.roster.specs.Model.{rows_of, start_at, goal_at}
@@ -7,7 +7,7 @@ use Rattle.roster.proofs.Laws.{rows_most}
 use Rattle.rules.specs.Conflicts.{Conflicts, RuleLaws}
 use Rattle.scales.specs.Measure.{Measure, MeasureLaws}
 use Rattle.sheets.specs.Problem.{Problem, ProblemLaws, Group, Member, count}
-use Rattle.sheets.specs.Plan.{Plan, Best, Without, cost}
+use Rattle.sheets.specs.Plan.{Plan, Without}
 use Rattle.sheets.specs.Inquiry.{inquiry, problem_of, plan_of}
 use Rattle.sheets.specs.declared.question.Question.{Question}
 use Rattle.sheets.specs.declared.sheet.Sheet.{Sheet}
@@ -15,7 +15,7 @@ use Rattle.sheets.proofs.Posed.{sound, laws_of, posed_of}
 use Rattle.search.specs.Answers.{Solved}
 use Rattle.words.specs.Words.{Process, rest, best, BestWord}
 use Rattle.words.specs.Joint.{Task, Joint, process}
-use Rattle.words.specs.Bridge.{Picks, Bridged, Starts, task_of_problem, alone, seen, group_process, group_start, group_word}
+use Rattle.words.specs.Bridge.{Picks, Bridged, task_of_problem, alone, seen, group_process, group_start, group_word}
 use Rattle.words.specs.Gathering.{Gathered}
 use Rattle.words.specs.Tasks.{task_of, begin, Solution}
 use Rattle.words.specs.Rows.{row_of, group_of, ChosenTo, Rows, Written, planned}

@@ -1,12 +1,12 @@
 -- What a word of a sheet spends is the sheet's cost.
-use Rattle.std.proofs.Common.{◌≡◌, ℕ, zero, suc, ◌+◌, ◌-◌, ◌*◌, ◌<◌, ◌≤◌, Bool, true, false, cond, ◌&&◌, eqb, List, [], ◌∷◌, ◌++◌, length, get_or, sym, refl, ap, ◌∙◌, subst, ap₂, mul-le-mul, mul-zero, mul-suc, add-one, arith, length-append}
+use Rattle.std.proofs.Common.{◌≡◌, ℕ, zero, suc, ◌+◌, ◌*◌, ◌<◌, ◌≤◌, ◌&&◌, eqb, List, [], ◌∷◌, ◌++◌, length, get_or, sym, refl, ap, ◌∙◌, subst, ap₂, mul-le-mul, mul-zero, mul-suc, add-one, arith, length-append}
 use Rattle.scales.specs.Measure.{Measure, MeasureLaws, joined}
 use Rattle.sheets.specs.Problem.{Problem, ProblemLaws, everyone, run_over}
 use Rattle.sheets.specs.Plan.{Plan, step_cost, row_cost, cost}
-use Rattle.scales.proofs.Joins.{joined_size, joined_same, joined_join, nothing_join}
+use Rattle.scales.proofs.Joins.{joined_size, joined_join, nothing_join}
 use Rattle.words.specs.Words.{Process, spent}
-use Rattle.words.specs.Joint.{Task, Joint, turned, move_price, process}
-use Rattle.words.specs.Bridge.{counted, task_of_problem, row_word, sheet_word}
+use Rattle.words.specs.Joint.{Joint, turned, move_price, process}
+use Rattle.words.specs.Bridge.{counted, row_word, sheet_word}
 use Rattle.words.proofs.Prices.{price_size}
 use Rattle.words.proofs.Runs.{length_counted, get_d_counted, counted_same, turned_part, turned_all, row, next, K}
 

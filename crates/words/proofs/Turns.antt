@@ -1,5 +1,5 @@
 -- One train's move in a joint step: whose turn it is, and what is looked at of where the trains stand.
-use Rattle.std.proofs.Common.{◌≡◌, ℕ, ◌<◌, ◌≤◌, ◌&&◌, eqb, List, [], length, get_or, take, ap, arith, get_or-take}
+use Rattle.std.proofs.Common.{◌≡◌, ℕ, ◌<◌, ◌&&◌, eqb, List, [], length, get_or, take, ap, arith, get_or-take}
 use Rattle.std.proofs.lemmas.Bool.{eq-eqb, ne_eqb}
 use Rattle.scales.specs.Measure.{Measure}
 use Rattle.sheets.proofs.Alls.{all_same}

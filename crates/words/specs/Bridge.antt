@@ -1,5 +1,5 @@
 -- A group's sheet read by time, then by train, as a word; and what lawful, cost, order and best are of words.
-use Rattle.std.specs.Prelude.{◌≡◌, ℕ, zero, suc, ◌+◌, ◌*◌, ◌<◌, ◌≤◌, Bool, true, false, not, ◌&&◌, List, [], ◌∷◌, ◌++◌}
+use Rattle.std.specs.Prelude.{◌≡◌, ℕ, zero, suc, ◌+◌, ◌*◌, ◌<◌, ◌≤◌, not, ◌&&◌, List, [], ◌∷◌, ◌++◌}
 use Rattle.scales.specs.Measure.{Measure}
 use Rattle.sheets.specs.Problem.{Group, Problem, ProblemLaws, Posed, Member, allowed, run_over}
 use Rattle.sheets.specs.Plan.{Plan, Lawful, Before, SameOn, Best, cost}

@@ -1,5 +1,5 @@
 -- The rows of a group in rising order.
-use Rattle.std.specs.Prelude.{◌≡◌, ℕ, zero, suc, ◌+◌, ◌<◌, ◌≤◌, Bool, true, false, cond, ◌&&◌, ◌==◌}
+use Rattle.std.specs.Prelude.{◌≡◌, ℕ, zero, suc, ◌<◌, cond, ◌&&◌, ◌==◌}
 use Rattle.sheets.specs.Problem.{Group, Problem, Member}
 use Rattle.sheets.specs.Problem.{count}
 use Rattle.words.specs.Bridge.{Picks}

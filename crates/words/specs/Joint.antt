@@ -1,5 +1,5 @@
 -- Joint positions of a group of trains, and the process of moving them: one choice for each train in turn, step after step.
-use Rattle.std.specs.Prelude.{◌≡◌, ℕ, Bool, true, false, cond, not, ◌&&◌, List, [], ◌∷◌, ◌++◌, length, ◌==◌, nat_eq, slice_index}
+use Rattle.std.specs.Prelude.{ℕ, Bool, cond, not, ◌&&◌, List, [], ◌∷◌, ◌++◌, length, ◌==◌, nat_eq, slice_index}
 use Rattle.scales.specs.Measure.{Measure}
 use Rattle.sheets.specs.Problem.{all}
 use Rattle.words.specs.Words.{Process}

@@ -1,5 +1,5 @@
 -- The rows of a group that are chosen, and what is written in them.
-use Rattle.std.specs.Prelude.{◌≡◌, ℕ, zero, suc, ◌+◌, ◌*◌, ◌<◌, ◌≤◌, Bool, true, false, List, [], length, slice_index, slice_set}
+use Rattle.std.specs.Prelude.{◌≡◌, ℕ, zero, suc, ◌+◌, ◌*◌, ◌<◌, ◌≤◌, true, List, length, slice_index, slice_set}
 use Rattle.roster.specs.Model.{start_at, goal_at}
 use Rattle.sheets.specs.Problem.{Group, count}
 use Rattle.sheets.specs.Posing.{marked}

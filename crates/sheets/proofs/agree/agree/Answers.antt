@@ -1,8 +1,5 @@
-use Rattle.std.proofs.Common.{◌≡◌, sym, refl, ap, ◌∙◌}
-use Rattle.sheets.specs.Posing.{marked}
-use Rattle.sheets.specs.Plan.{Plan}
+use Rattle.std.proofs.Common.{sym, ◌∙◌}
 use Rattle.sheets.specs.Inquiry.{inquiry, plan_of}
-use Rattle.sheets.specs.Theorems.{Same}
 use Rattle.sheets.proofs.Posed.{laws_of}
 use Rattle.sheets.proofs.Agreed.{same_told}
 use Rattle.sheets.proofs.Sheets.{best_unique}

@@ -1,6 +1,5 @@
-use Rattle.std.proofs.Common.{◌≡◌, ℕ, ◌<◌, ◌≤◌, Bool, true, false, ◌&&◌, ◌||◌, ltb, leb, sym, ap, ◌∙◌, arith}
+use Rattle.std.proofs.Common.{◌≡◌, ℕ, true, false, ◌&&◌, ◌||◌, ltb, leb, sym, ap, ◌∙◌, arith}
 use Rattle.std.proofs.lemmas.Bool.Decides.{nat_tests}
-use Rattle.track.specs.Layouts.{sections_of}
 use Rattle.roster.specs.Model.{rows_of, start_at, goal_at}
 use Rattle.sheets.specs.Problem.{all}
 use Rattle.sheets.specs.Posing.{all_on}

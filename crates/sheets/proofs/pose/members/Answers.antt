@@ -1,5 +1,4 @@
-use Rattle.std.proofs.Common.{◌≡◌, ℕ, suc, ◌+◌, ◌<◌, ◌≤◌, Bool, true, false, cond, sym, ap, ◌∙◌, add-one, arith}
-use Rattle.sheets.specs.Problem.{count}
+use Rattle.std.proofs.Common.{arith}
 use Rattle.sheets.specs.Posing.{marked}
 use Rattle.sheets.proofs.Alls.{count_yes, count_no}
 use Rattle.sheets.proofs.pose.members.Goals as goal

@@ -1,5 +1,5 @@
-use Rattle.std.proofs.Common.{◌≡◌, ℕ, ◌+◌, Bool, cond, ◌&&◌, eqb, [], get_or, sym, refl, ap, ◌∙◌, arith}
-use Rattle.std.proofs.lemmas.Bool.{cond-true, cond-false}
+use Rattle.std.proofs.Common.{ℕ, ◌+◌, ◌&&◌, eqb, [], get_or, sym, ap, ◌∙◌}
+use Rattle.std.proofs.lemmas.Bool.{cond-true}
 use Rattle.scales.specs.Measure.{joined}
 use Rattle.sheets.specs.Inquiry.{over}
 use Rattle.sheets.specs.Plan.{row_cost}

@@ -1,4 +1,4 @@
-use Rattle.std.proofs.Common.{◌≡◌, ℕ, cond, sym, refl, ap, ◌∙◌, ap₂, arith}
+use Rattle.std.proofs.Common.{◌≡◌, ℕ, cond, sym, ap, ◌∙◌, ap₂, arith}
 use Rattle.roster.specs.Model.{rows_of}
 use Rattle.scales.specs.Measure.{joined}
 use Rattle.scales.proofs.Joins.{joined_more}

@@ -1,7 +1,5 @@
-use Rattle.std.proofs.Common.{◌≡◌, ℕ, ◌+◌, ◌&&◌, eqb, get_or, sym, refl, ap, ◌∙◌, ap₂, add-one}
-use Rattle.scales.specs.Measure.{joined}
+use Rattle.std.proofs.Common.{ℕ, ◌+◌, ◌&&◌, eqb, get_or, sym, ap, ◌∙◌, ap₂}
 use Rattle.scales.proofs.Joins.{joined_more}
-use Rattle.sheets.specs.Inquiry.{over}
 use Rattle.sheets.proofs.price.steps_cost.Goals as goal
 
 pub loop-time-preserved : goal.loop-time-preserved

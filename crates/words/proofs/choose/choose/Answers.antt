@@ -1,5 +1,4 @@
-use Rattle.std.proofs.Common.{◌≡◌, ◌+◌, ◌<◌, ◌≤◌, sym, refl, ◌∙◌, subst, arith}
-use Rattle.words.specs.Rows.{ChosenTo, added}
+use Rattle.std.proofs.Common.{◌<◌, ◌∙◌, arith}
 use Rattle.words.proofs.RowProofs.{chosen_skip, chosen_more}
 use Rattle.words.proofs.choose.choose.Goals as goal
 use Rattle.words.proofs.choose.choose.Goals.{then-question-row+in-Some, then-question-row+in-None, else-question-row}

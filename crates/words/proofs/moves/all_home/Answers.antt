@@ -1,4 +1,4 @@
-use Rattle.std.proofs.Common.{◌≡◌, sym, refl, ◌∙◌, get_or-take}
+use Rattle.std.proofs.Common.{sym, ◌∙◌, get_or-take}
 use Rattle.std.proofs.lemmas.Bool.{eq-eqb, ne_eqb}
 use Rattle.sheets.proofs.Alls.{all_more, all_false}
 use Rattle.words.proofs.moves.all_home.Goals as goal

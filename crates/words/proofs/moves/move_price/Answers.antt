@@ -1,4 +1,4 @@
-use Rattle.std.proofs.Common.{◌≡◌, ◌&&◌, eqb, get_or, sym, refl, ap, ◌∙◌, get_or-take}
+use Rattle.std.proofs.Common.{◌&&◌, eqb, get_or, sym, ap, ◌∙◌, get_or-take}
 use Rattle.words.specs.Tasks.{over}
 use Rattle.words.proofs.moves.move_price.Goals as goal
 

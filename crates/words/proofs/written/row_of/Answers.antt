@@ -1,4 +1,4 @@
-use Rattle.std.proofs.Common.{◌≡◌, ◌+◌, ◌*◌, ◌<◌, ◌≤◌, length, sym, ◌∙◌, subst, mul-le-mul, arith, length-set, rules}
+use Rattle.std.proofs.Common.{◌≡◌, ◌+◌, ◌*◌, ◌<◌, ◌≤◌, length, ◌∙◌, subst, mul-le-mul, arith, length-set, rules}
 use Rattle.words.specs.Rows.{RowWritten}
 use Rattle.words.proofs.RowProofs.{row_first, row_more, row_end}
 use Rattle.words.proofs.written.row_of.Goals as goal

@@ -1,5 +1,5 @@
-use Rattle.std.proofs.Common.{◌≡◌, ◌+◌, ◌*◌, ◌<◌, ◌≤◌, length, get_or, sym, subst, arith, rules}
-use Rattle.words.specs.Rows.{Written, row_of}
+use Rattle.std.proofs.Common.{◌≡◌, ◌<◌, length, get_or, subst, arith, rules}
+use Rattle.words.specs.Rows.{Written}
 use Rattle.words.proofs.RowProofs.{written_none, written_more}
 use Rattle.words.proofs.written.write.Goals as goal
 
