@@ -52,7 +52,7 @@ loop-i-preserved g t c =
     elim c.if-may_move.branch [
       | then-may_move w ↦
           let m = sym c.may_move.ensures.whether_the_move_is_open_and_meets_no_conflict ∙ w.if-may_move.true in
-          let v = row_move _ _ c.args.left c.args.j c.args.at c.args.to jk la lt x w.best_move.result w.cost_in-default.result w.with_price.result m w.best_move.ensures.the_least_and_the_first_that_makes_it_up w.cost_in-default.ensures.the_cost_if_there_is_a_move w.with_price.ensures.the_price_joined_with_the_rest in
+          let v = row_move _ _ c.args.left c.args.j c.args.at c.args.to jk la lt x w.best_move.result w.cost_in-rest.result w.with_price.result m w.best_move.ensures.the_least_and_the_first_that_makes_it_up w.cost_in-rest.ensures.the_cost_if_there_is_a_move w.with_price.ensures.the_price_joined_with_the_rest in
           rw w.run-is (fill_put _ _ c.args.left c.args.j c.args.at c.args.to jk la lt c.candidates-tries.result c.loop-i.i c.loop-i.run w.with_price.result h c.loop-i.invariant v)
       | else-may_move w ↦
           let m = sym c.may_move.ensures.whether_the_move_is_open_and_meets_no_conflict ∙ w.if-may_move.false in

@@ -68,14 +68,14 @@ loop-x-preserved g t c =
       | then-may_move w ↦
           let e = w.join.ensures.both_costs_together ∙ ap ((g.S.Scale.measure c.args.board.now.scale.now).join c.args.sofar) w.move_price-price.ensures.the_price_of_the_move in
           let n = w.nearer.ensures.the_cost_of_the_best_or_the_bound in
-          let b = w.best_is ∙ w.newer-best.ensures.what_was_found_or_the_best_so_far in
+          let b = w.best-is ∙ w.newer-best.ensures.what_was_found_or_the_best_so_far in
           let p = w.put.ensures.the_section_is_written in
           let m = sym c.may_move.ensures.whether_the_move_is_open_and_meets_no_conflict ∙ w.if-may_move.true in
           let W = rw (e, n) at w.explore-found.ensures.the_best_that_stays_below_the_bound in
           rw (b, p) (scan_move _ (g.met.S.Scale.lawful _) _ c.args.left c.args.j c.args.place c.args.at c.args.to c.args.sofar c.args.bound c.requires jk la lt c.loop-x.x c.loop-x.best w.explore-found.result c.loop-x.invariant m W)
       | else-may_move w ↦
           let m = sym c.may_move.ensures.whether_the_move_is_open_and_meets_no_conflict ∙ w.if-may_move.false in
-          rw w.best_is (scan_skip _ (g.met.S.Scale.lawful _) _ c.args.left c.args.j c.args.place c.args.at c.args.to c.args.sofar c.args.bound c.requires jk la lt c.loop-x.x c.loop-x.best c.loop-x.invariant m)
+          rw w.best-is (scan_skip _ (g.met.S.Scale.lawful _) _ c.args.left c.args.j c.args.place c.args.at c.args.to c.args.sofar c.args.bound c.requires jk la lt c.loop-x.x c.loop-x.best c.loop-x.invariant m)
     ]
 
 pub returns : goal.returns
