@@ -1,10 +1,10 @@
 -- The search of one joint step: a turn of its loop, its end and its last train.
-use Rattle.std.proofs.Common.{◌≡◌, ℕ, zero, suc, ◌+◌, ◌*◌, ◌<◌, ◌≤◌, Bool, true, false, cond, ◌&&◌, eqb, ◌≢◌, ◌⊎◌, List, [], ◌∷◌, ◌++◌, length, get_or, take, set, replicate, Some, None, Option, sym, refl, ap, ◌∙◌, subst, ap₂, ⊎_elim, add-one, arith, length-set, length-take-le, get_or-set_other, get_or-take, get_or-set_same, take-suc-set}
-use Rattle.std.proofs.lemmas.Bool.{eq-eqb, ne_eqb, and_left, cases_lt}
+use Rattle.std.proofs.Common.{◌≡◌, ℕ, zero, suc, ◌+◌, ◌*◌, ◌<◌, ◌≤◌, Bool, true, false, cond, ◌≢◌, List, [], ◌∷◌, ◌++◌, length, get_or, take, set, replicate, Some, None, Option, sym, refl, ap, ◌∙◌, subst, ap₂, ⊎_elim, add-one, arith, length-set, length-take-le, get_or-set_other, get_or-take, get_or-set_same, take-suc-set}
+use Rattle.std.proofs.lemmas.Bool.{and_left, cases_lt}
 use Rattle.scales.specs.Measure.{Measure, MeasureLaws}
 use Rattle.scales.specs.Runs.{FirstLeast}
-use Rattle.words.specs.Words.{with, least, first, rest}
-use Rattle.words.specs.Joint.{Task, turned, clear, may_move, move_price, process}
+use Rattle.words.specs.Words.{with, first, rest}
+use Rattle.words.specs.Joint.{Task, turned, may_move, move_price, process}
 use Rattle.words.specs.Tasks.{begin}
 use Rattle.words.proofs.Turns.{turned_full, turned_part, may_same, price_same}
 use Rattle.table.specs.Candidates.{Candidates}

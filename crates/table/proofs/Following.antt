@@ -1,16 +1,16 @@
 -- Following the best word, one train after the other and one step after the other.
-use Rattle.std.proofs.Common.{◌≡◌, ℕ, zero, suc, ◌+◌, ◌-◌, ◌*◌, ◌<◌, ◌≤◌, Bool, true, false, ◌≢◌, List, [], ◌∷◌, ◌++◌, length, get_or, take, set, is_some, Some, None, Option, sym, refl, ap, ◌∙◌, subst, ap₂, ⊎_elim, mul-le-mul, mul-zero, mul-add, add-one, arith, length-set, length-take-le, get_or-set_other, get_or-set_same, take-suc-set}
+use Rattle.std.proofs.Common.{◌≡◌, ℕ, suc, ◌+◌, ◌-◌, ◌*◌, ◌<◌, ◌≤◌, true, false, ◌≢◌, List, [], ◌∷◌, ◌++◌, length, get_or, take, set, is_some, Some, None, Option, sym, refl, ap, ◌∙◌, subst, ap₂, ⊎_elim, mul-zero, mul-add, add-one, arith, length-set, length-take-le, get_or-set_other, get_or-set_same, take-suc-set}
 use lib.Seq.{append_snoc}
 use Rattle.std.proofs.lemmas.List.{append-nil, append_assoc}
 use Rattle.std.proofs.lemmas.Bool.{cases_lt, both_ways}
 use Rattle.scales.specs.Measure.{Measure, MeasureLaws}
-use Rattle.words.specs.Words.{FirstOf, Firstly, least, first, rest, best}
+use Rattle.words.specs.Words.{Firstly, least, first, rest, best}
 use Rattle.words.specs.Joint.{Task, Joint, turned, process}
 use Rattle.words.specs.Tasks.{begin}
 use Rattle.words.specs.Rests.{On}
 use Rattle.words.proofs.Least.{firstly}
 use Rattle.words.proofs.BestWords.{choice_some}
-use Rattle.table.specs.Steps.{todo, move_cost, cost_in, MovesTo, Ready, Picked, Can, Stepped}
+use Rattle.table.specs.Steps.{todo, move_cost, cost_in, Picked, Can, Stepped}
 use Rattle.table.specs.declared.pick.Pick.{Pick}
 use Rattle.words.proofs.Turns.{turned_part, turned_full}
 

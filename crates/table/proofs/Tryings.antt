@@ -1,14 +1,13 @@
 -- The moves tried: one section more, and the first of the least of them.
-use Rattle.std.proofs.Common.{◌≡◌, ℕ, zero, suc, ◌+◌, ◌-◌, ◌<◌, ◌≤◌, Bool, true, false, cond, ◌≢◌, ◌⊎◌, List, [], ◌∷◌, length, get_or, set, Some, None, Option, sym, refl, ap, ◌∙◌, subst, inl, inr, ⊎_elim, arith, length-set, get_or-set_other, get_or-set_same}
+use Rattle.std.proofs.Common.{◌≡◌, ℕ, zero, suc, ◌+◌, ◌-◌, ◌<◌, ◌≤◌, Bool, true, false, ◌≢◌, ◌⊎◌, length, get_or, set, Some, None, Option, sym, refl, ap, ◌∙◌, subst, inl, inr, ⊎_elim, arith, length-set, get_or-set_other, get_or-set_same}
 use Rattle.std.proofs.lemmas.Bool.{cases_lt, cases_order, cases_Bool, both_ways}
 use Rattle.scales.specs.Measure.{Measure, MeasureLaws}
 use Rattle.scales.specs.Runs.{FirstLeast}
 use Rattle.scales.proofs.Joins.{lower_not, lower_asym}
 use Rattle.words.specs.Words.{FirstOf, Firstly, least, first}
-use Rattle.words.proofs.Least.{some≢none, some_same, firstly}
+use Rattle.words.proofs.Least.{some≢none, firstly}
 use Rattle.table.specs.Candidates.{Candidates, one_more}
 use Rattle.table.specs.Steps.{cost_in, MovesTo, pick_at}
-use Rattle.table.specs.declared.pick.Pick.{Pick}
 use Rattle.table.specs.declared.tries.Tries.{Tries}
 
 module _ (x : ℕ) (reach : ℕ → Bool) (t : Tries) (T : Candidates x reach t) where

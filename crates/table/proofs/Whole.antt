@@ -1,5 +1,5 @@
 -- From a question and its chosen rows to a worksheet that can be filled, and a start that it can be read off from.
-use Rattle.std.proofs.Common.{◌≡◌, ℕ, zero, suc, ◌+◌, ◌*◌, ◌^◌, ◌<◌, ◌≤◌, length, get_or, sym, refl, ap, ◌∙◌, subst, mul_comm, mul-le-mul, mul-add, arith}
+use Rattle.std.proofs.Common.{◌≡◌, ℕ, ◌+◌, ◌*◌, ◌^◌, ◌<◌, ◌≤◌, get_or, sym, subst, mul_comm, mul-le-mul, mul-add, arith}
 use Rattle.track.specs.Layouts.{sections_of}
 use Rattle.track.specs.declared.layout.Layout.{Layout}
 use Rattle.track.proofs.Laws.{sections_most}

@@ -1,11 +1,11 @@
 -- The worksheet, column by column.
-use Rattle.std.proofs.Common.{◌≡◌, ℕ, zero, suc, ◌+◌, ◌-◌, ◌*◌, ◌^◌, ◌<◌, ◌≤◌, Bool, true, false, cond, ◌≢◌, ◌⊎◌, List, [], ◌∷◌, ◌++◌, length, get_or, take, set, Some, None, Option, sym, refl, ap, ◌∙◌, subst, ap₂, inl, inr, ⊎_elim, add-mul, mul-le-mul, mul-zero, mul-add, arith, get_or-set_other, get_or-set_same}
+use Rattle.std.proofs.Common.{◌≡◌, ℕ, ◌+◌, ◌*◌, ◌^◌, ◌<◌, ◌≤◌, Bool, cond, ◌≢◌, List, [], length, get_or, take, set, Some, None, Option, sym, ap, ◌∙◌, subst, ap₂, ⊎_elim, add-mul, mul-le-mul, mul-zero, mul-add, arith, get_or-set_other, get_or-set_same}
 use Rattle.std.proofs.lemmas.Bool.{cases_lt}
 use Rattle.scales.specs.Measure.{Measure}
 use Rattle.words.specs.Words.{rest}
-use Rattle.words.specs.Joint.{Task, Joint, turned, home, process}
+use Rattle.words.specs.Joint.{Task, turned, home, process}
 use Rattle.words.specs.Tasks.{begin}
-use Rattle.words.specs.Rests.{On, Knows}
+use Rattle.words.specs.Rests.{Knows}
 use Rattle.table.specs.Codes.{digits, code_of}
 use Rattle.table.specs.Columns.{due, Partly, Columns, KeptFrom, Based, Within, cell_at}
 use Rattle.table.specs.Steps.{todo, cost_in, Ready, Picked}

@@ -1,9 +1,9 @@
 -- A running best under a bound: what is kept, and what it is the best of.
-use Rattle.std.proofs.Common.{◌≡◌, ℕ, zero, suc, ◌+◌, ◌*◌, ◌<◌, ◌≤◌, Bool, true, false, cond, not, ◌⊎◌, Some, None, Option, sym, refl, ap, ◌∙◌, subst, inl, inr, ⊎_elim, true≢false, arith}
+use Rattle.std.proofs.Common.{◌≡◌, ℕ, ◌+◌, ◌≤◌, Bool, true, false, cond, Some, None, Option, sym, refl, ap, ◌∙◌, subst, inl, inr, ⊎_elim, true≢false, arith}
 use Rattle.std.proofs.lemmas.Bool.{cases_Bool, both_ways, not-true}
 use Rattle.scales.specs.Measure.{Measure, MeasureLaws}
 use Rattle.words.specs.Words.{under, with}
-use Rattle.words.proofs.Least.{some≢none, some_same, NoHigher, no_higher, lower_no_higher, no_higher_trans}
+use Rattle.words.proofs.Least.{some≢none, NoHigher, no_higher, lower_no_higher, no_higher_trans}
 use Rattle.walk.specs.Walks.{or_else, cut, spent_up}
 
 abbrev pub Sized : {C : Type 0} → Measure C → ℕ → Option C → Type 0

@@ -1,10 +1,10 @@
 -- The walk from a place on: what a turn of its loop, its end and its cuts show.
-use Rattle.std.proofs.Common.{◌≡◌, ℕ, zero, suc, ◌+◌, ◌-◌, ◌*◌, ◌<◌, ◌≤◌, Bool, true, false, cond, not, ◌&&◌, eqb, ◌⊎◌, List, [], ◌∷◌, ◌++◌, length, get_or, take, drop, set, Some, None, Option, sym, refl, ap, ◌∙◌, subst, ap₂, inl, inr, ⊎_elim, mul-le-mul, mul-zero, mul-suc, add-one, arith, length-set, length-take-le, get_or-take, take-suc-set}
-use Rattle.std.proofs.lemmas.Bool.{eq-eqb, ne_eqb, not-false}
+use Rattle.std.proofs.Common.{◌≡◌, ℕ, zero, suc, ◌+◌, ◌-◌, ◌*◌, ◌<◌, ◌≤◌, Bool, true, false, cond, List, [], ◌∷◌, ◌++◌, length, take, drop, set, Some, None, Option, sym, refl, ap, ◌∙◌, subst, ap₂, inl, mul-zero, mul-suc, add-one, arith, length-set, length-take-le, take-suc-set}
+use Rattle.std.proofs.lemmas.Bool.{not-false}
 use Rattle.scales.specs.Measure.{Measure, MeasureLaws}
 use Rattle.words.specs.Words.{Process, Run, spent, under, with, least, first, rest, best, choice}
-use Rattle.words.specs.Joint.{Task, Joint, turned, clear, may_move, move_price, home, process}
-use Rattle.words.proofs.Least.{some≢none, NoHigher}
+use Rattle.words.specs.Joint.{Task, Joint, turned, may_move, move_price, home, process}
+use Rattle.words.proofs.Least.{NoHigher}
 use Rattle.words.proofs.BestWords.{rest_size, answers, spent_size}
 use Rattle.words.specs.declared.found.Found.{Found}
 use Rattle.words.specs.Tasks.{cost_of, Goes}

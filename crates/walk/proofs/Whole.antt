@@ -1,5 +1,5 @@
 -- The walk from the starts on solves the group's task.
-use Rattle.std.proofs.Common.{◌≡◌, ℕ, suc, ◌+◌, ◌-◌, ◌*◌, ◌<◌, ◌≤◌, List, [], length, take, drop, Some, None, Option, sym, refl, ap, ◌∙◌, ap₂, mul-suc, arith}
+use Rattle.std.proofs.Common.{◌≡◌, ℕ, suc, ◌-◌, ◌*◌, ◌≤◌, List, [], take, Some, None, Option, sym, refl, ap, ◌∙◌, ap₂, mul-suc, arith}
 use Rattle.track.specs.declared.layout.Layout.{Layout}
 use Rattle.roster.specs.Model.{rows_of}
 use Rattle.rules.specs.Conflicts.{Conflicts, RuleLaws}
@@ -8,8 +8,8 @@ use Rattle.scales.proofs.Joins.{nothing_join}
 use Rattle.sheets.specs.declared.question.Question.{Question}
 use Rattle.sheets.proofs.Posed.{sound, laws_of}
 use Rattle.words.specs.Words.{rest, best, with}
-use Rattle.words.specs.Joint.{Task, Joint, turned, process}
-use Rattle.words.specs.Tasks.{task_of, begin, cost_of, Goes, Solution}
+use Rattle.words.specs.Joint.{Task, turned, process}
+use Rattle.words.specs.Tasks.{task_of, begin, Solution}
 use Rattle.words.specs.Rows.{ChosenTo}
 use Rattle.words.specs.declared.chosen.Chosen.{Chosen}
 use Rattle.words.specs.declared.found.Found.{Found}

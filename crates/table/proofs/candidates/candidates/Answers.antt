@@ -1,6 +1,6 @@
-use Rattle.std.proofs.Common.{◌≡◌, ◌+◌, ◌<◌, ◌≤◌, length, sym, refl, ◌∙◌, subst, arith}
+use Rattle.std.proofs.Common.{◌≡◌, ◌<◌, length, refl, ◌∙◌, arith}
 use Rattle.track.proofs.Laws.{sections_most}
-use Rattle.table.proofs.Merging.{Below, Above, below_none, below_skip, below_take, self_take, above_skip, above_take, above_all}
+use Rattle.table.proofs.Merging.{below_none, below_skip, below_take, self_take, above_skip, above_take, above_all}
 use Rattle.table.proofs.candidates.candidates.Goals as goal
 use Rattle.table.proofs.candidates.candidates.Goals.{then-neighbours-i, else-neighbours-i, then-a-neighbours, else-a-neighbours}
 

@@ -1,4 +1,4 @@
-use Rattle.std.proofs.Common.{◌≡◌, ◌+◌, ◌*◌, get_or, sym, refl, ap, ◌∙◌, arith}
+use Rattle.std.proofs.Common.{◌+◌, ◌*◌, get_or, refl, ap, ◌∙◌, arith}
 use Rattle.table.specs.Codes.{code_of}
 use Rattle.table.proofs.Numbers.{code_fits, code_more}
 use Rattle.table.proofs.codes.code_of.Goals as goal

@@ -1,4 +1,4 @@
-use Rattle.std.proofs.Common.{◌≡◌, ◌+◌, ◌*◌, ◌<◌, ◌≤◌, length, sym, refl, ◌∙◌, subst, add-mul, mul-le-mul, arith, rules}
+use Rattle.std.proofs.Common.{◌≡◌, ◌+◌, ◌*◌, ◌≤◌, length, refl, subst, add-mul, mul-le-mul, arith, rules}
 use Rattle.table.specs.Columns.{KeptFrom}
 use Rattle.table.proofs.Worksheets.{columns_to, kept_more}
 use Rattle.table.proofs.fill.fill.Goals as goal

@@ -1,4 +1,4 @@
-use Rattle.std.proofs.Common.{◌≡◌, ◌<◌, ◌≤◌, length, take, sym, refl, ap, ◌∙◌, subst, arith, rules}
+use Rattle.std.proofs.Common.{◌≡◌, ◌<◌, length, take, refl, ap, ◌∙◌, arith, rules}
 use Rattle.track.specs.Layouts.{sections_of}
 use Rattle.table.specs.Codes.{digits}
 use Rattle.table.proofs.Worksheets.{partly_first, columns_first, home_due, kept_set}

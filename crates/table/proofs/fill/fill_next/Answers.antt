@@ -1,4 +1,4 @@
-use Rattle.std.proofs.Common.{◌≡◌, ◌+◌, ◌*◌, ◌^◌, ◌<◌, ◌≤◌, length, sym, refl, ◌∙◌, add-mul, arith, rules}
+use Rattle.std.proofs.Common.{◌≡◌, ◌+◌, ◌*◌, ◌<◌, length, refl, add-mul, arith, rules}
 use Rattle.table.proofs.Worksheets.{partly_more, columns_kept, columns_more, kept_set}
 use Rattle.table.proofs.fill.fill_next.Goals as goal
 

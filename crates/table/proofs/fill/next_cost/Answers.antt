@@ -1,4 +1,4 @@
-use Rattle.std.proofs.Common.{◌≡◌, ◌<◌, ◌≤◌, length, take, sym, refl, ap, ◌∙◌, subst, arith, rules}
+use Rattle.std.proofs.Common.{◌≡◌, take, refl, ap, ◌∙◌, arith}
 use Rattle.track.specs.Layouts.{sections_of}
 use Rattle.table.specs.Codes.{digits}
 use Rattle.table.proofs.Worksheets.{filled_knows, ready_start, picked_due}

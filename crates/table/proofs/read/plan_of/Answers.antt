@@ -1,4 +1,4 @@
-use Rattle.std.proofs.Common.{◌≡◌, ◌+◌, ◌-◌, ◌*◌, ◌<◌, ◌≤◌, length, sym, refl, ◌∙◌, mul-le-mul, mul-add, arith, rules}
+use Rattle.std.proofs.Common.{◌≡◌, ◌*◌, ◌≤◌, length, refl, mul-le-mul, arith, rules}
 use Rattle.table.proofs.Following.{follow_start, follow_can, follow_more, follow_end}
 use Rattle.table.proofs.read.plan_of.Goals as goal
 

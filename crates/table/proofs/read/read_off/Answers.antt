@@ -1,4 +1,4 @@
-use Rattle.std.proofs.Common.{◌≡◌, ◌*◌, ◌<◌, ◌≤◌, length, is_some, sym, refl, ap, ◌∙◌, arith, rules}
+use Rattle.std.proofs.Common.{◌≡◌, ◌≤◌, length, is_some, sym, ap, ◌∙◌, arith, rules}
 use Rattle.table.proofs.read.read_off.Goals as goal
 
 pub rest-requires : goal.rest-requires

@@ -1,4 +1,4 @@
-use Rattle.std.proofs.Common.{◌≡◌, ◌+◌, ◌<◌, length, sym, ◌∙◌, arith, length-set, rules}
+use Rattle.std.proofs.Common.{◌+◌, ◌<◌, length, ◌∙◌, arith, length-set, rules}
 use Rattle.table.proofs.Rowwise.{row_start, row_more}
 use Rattle.table.proofs.read.with_row.Goals as goal
 

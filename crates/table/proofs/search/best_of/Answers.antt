@@ -1,4 +1,4 @@
-use Rattle.std.proofs.Common.{◌≡◌, ◌+◌, ◌*◌, ◌≤◌, length, sym, refl, ◌∙◌, subst, arith, rules}
+use Rattle.std.proofs.Common.{◌≡◌, length, sym, refl, subst, arith, rules}
 use Rattle.sheets.proofs.Posed.{sound}
 use Rattle.table.specs.Columns.{KeptFrom}
 use Rattle.table.proofs.Whole.{based, ready, cells_used}

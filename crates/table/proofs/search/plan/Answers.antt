@@ -1,5 +1,4 @@
-use Rattle.std.proofs.Common.{◌≡◌, ◌+◌, ◌*◌, ◌^◌, ◌<◌, ◌≤◌, length, sym, refl, ap, ◌∙◌, subst, ap₂, arith}
-use Rattle.track.specs.Layouts.{sections_of}
+use Rattle.std.proofs.Common.{◌+◌, ◌*◌, ◌^◌, ◌≤◌, length, refl, ap, ◌∙◌, subst, ap₂, arith}
 use Rattle.sheets.proofs.Posed.{sound}
 use Rattle.words.proofs.Solving.{rows, none_lawful, solved_by, trains_most}
 use Rattle.table.proofs.Whole.{cells_fit}

@@ -1,5 +1,4 @@
-use Rattle.std.proofs.Common.{◌≡◌, ◌<◌, ◌≤◌, length, sym, refl, ap, ◌∙◌, subst, arith, rules}
-use Rattle.table.specs.Steps.{Picked}
+use Rattle.std.proofs.Common.{◌≡◌, refl, arith}
 use Rattle.table.proofs.Following.{some_cost, step_start, step_more, step_done}
 use Rattle.table.proofs.step.joint_step.Goals as goal
 

@@ -1,4 +1,4 @@
-use Rattle.std.proofs.Common.{◌+◌, ◌-◌, ◌*◌, ◌<◌, ◌≤◌}
+use Rattle.std.proofs.Common.{◌+◌, ◌-◌, ◌*◌}
 use Rattle.words.specs.Tasks.{task_of}
 use Rattle.walk.proofs.Scans.{Scan}
 use Rattle.walk.proofs.explore.+explore.Given as goal

@@ -1,4 +1,4 @@
-use Rattle.std.proofs.Common.{◌≡◌, ◌≤◌, sym, refl, subst}
+use Rattle.std.proofs.Common.{◌≤◌, refl, subst}
 use Rattle.sheets.proofs.Posed.{sound}
 use Rattle.words.proofs.Solving.{rows, none_lawful, solved_by}
 use Rattle.walk.proofs.search.WalkSearch.search.Goals as goal
