@@ -77,7 +77,7 @@ module _ {C : Type 0} (takes : Inquiry C → ℕ → Type 0) (law : (j : Inquiry
   course_near {name} {x} (Course.joins t r q y f k b c) e = never_two name x t r q f
 
   opening_near : {k : ℕ} {x : Plan} {o : Outcome} → Opening i.measure i.problem i.group (taken takes i cells) k x o → is_beyond o ≢ true
-  opening_near (Opening.all_Asked h c) e = course_near c e
+  opening_near (Opening.all_asked h c) e = course_near c e
   opening_near (Opening.passes h n c) e = opening_near c e
   opening_near {k = r} (Opening.not_taken h n t) e =
       t (law (about (i) (part i.group alone r)) cells (record { one = unfold part in count_row i.problem.rows i.group r h n; room = one.room }))

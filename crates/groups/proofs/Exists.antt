@@ -109,7 +109,7 @@ module _ {C : Type 0} (S : Measure C) (L : MeasureLaws S) (Q : Problem) (K : Pro
   opening_end : (m k : ℕ) (x : Plan) → k + m ≡ Q.rows → (o : Outcome) × Opening S Q G Taken k x o
   opening_end zero k x e =
       let rest = course_end (parts Q.rows G alone) alone x (alone_names Q G) (omega arith) in
-      (rest.0, Opening.all-Asked (omega arith) rest.1)
+      (rest.0, Opening.all_asked (omega arith) rest.1)
   opening_end (suc m) k x e = row (cases_Bool (G k)) (λ z. opening_end m (suc k) z (omega arith))
     where
       row : (G k ≡ true) ⊎ (G k ≡ false) → ((z : Plan) → (o : Outcome) × Opening S Q G Taken (suc k) z o) → (o : Outcome) × Opening S Q G Taken k x o

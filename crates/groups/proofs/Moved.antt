@@ -15,7 +15,7 @@ module _ {C : Type 0} (S : Measure C) (Q : Problem) (G : Group) (A B : Group →
   course_moved (Course.joins t r q y f k m c) = Course.joins t r q y f ((e _).to k) m (course_moved c)
 
   opening_moved : {k : ℕ} {x : Plan} {o : Outcome} → Opening S Q G A k x o → Opening S Q G B k x o
-  opening_moved (Opening.all_Asked h c) = Opening.all_Asked h (course_moved c)
+  opening_moved (Opening.all_asked h c) = Opening.all_asked h (course_moved c)
   opening_moved (Opening.passes h n c) = Opening.passes h n (opening_moved c)
   opening_moved (Opening.not_taken h n k) = Opening.not_taken h n (λ t. k ((e _).back t))
   opening_moved (Opening.without h n k w) = Opening.without h n ((e _).to k) w

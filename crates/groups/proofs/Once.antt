@@ -92,27 +92,27 @@ module _ {C : Type 0} (S : Measure C) (L : MeasureLaws S) (Q : Problem) (K : Pro
   neither b h k = both_ways b k h
 
   opening_once : {k : ℕ} {x z : Plan} {o p : Outcome} → SameOn Q G x z → Opening S Q G Taken k x o → Opening S Q G Taken k z p → Agree Q G o p
-  opening_once e (Opening.all_Asked h c) (Opening.all_Asked i d) = course_once e c d
-  opening_once e (Opening.all_Asked h c) (Opening.passes i n d) = absurd (omega arith)
-  opening_once e (Opening.all_Asked h c) (Opening.not_taken i m t) = absurd (omega arith)
-  opening_once e (Opening.all_Asked h c) (Opening.without i m t w) = absurd (omega arith)
-  opening_once e (Opening.all_Asked h c) (Opening.asks w i m t b d) = absurd (omega arith)
-  opening_once e (Opening.passes h n c) (Opening.all_Asked i d) = absurd (omega arith)
+  opening_once e (Opening.all_asked h c) (Opening.all_asked i d) = course_once e c d
+  opening_once e (Opening.all_asked h c) (Opening.passes i n d) = absurd (omega arith)
+  opening_once e (Opening.all_asked h c) (Opening.not_taken i m t) = absurd (omega arith)
+  opening_once e (Opening.all_asked h c) (Opening.without i m t w) = absurd (omega arith)
+  opening_once e (Opening.all_asked h c) (Opening.asks w i m t b d) = absurd (omega arith)
+  opening_once e (Opening.passes h n c) (Opening.all_asked i d) = absurd (omega arith)
   opening_once e (Opening.passes h n c) (Opening.passes i m d) = opening_once e c d
   opening_once {k = v} e (Opening.passes h n c) (Opening.not_taken i m t) = absurd (neither (G v) m n)
   opening_once {k = v} e (Opening.passes h n c) (Opening.without i m t w) = absurd (neither (G v) m n)
   opening_once {k = v} e (Opening.passes h n c) (Opening.asks w i m t b d) = absurd (neither (G v) m n)
-  opening_once e (Opening.not_taken h n k) (Opening.all_Asked i d) = absurd (omega arith)
+  opening_once e (Opening.not_taken h n k) (Opening.all_asked i d) = absurd (omega arith)
   opening_once {k = v} e (Opening.not_taken h n k) (Opening.passes i m d) = absurd (neither (G v) n m)
   opening_once e (Opening.not_taken h n k) (Opening.not_taken i m t) = tt
   opening_once e (Opening.not_taken h n k) (Opening.without i m t w) = k t
   opening_once e (Opening.not_taken h n k) (Opening.asks w i m t b d) = absurd (k t)
-  opening_once e (Opening.without h n k w) (Opening.all_Asked i d) = absurd (omega arith)
+  opening_once e (Opening.without h n k w) (Opening.all_asked i d) = absurd (omega arith)
   opening_once {k = v} e (Opening.without h n k w) (Opening.passes i m d) = absurd (neither (G v) n m)
   opening_once e (Opening.without h n k w) (Opening.not_taken i m t) = t k
   opening_once e (Opening.without h n k w) (Opening.without i m t v) = tt
   opening_once e (Opening.without h n k w) (Opening.asks y i m t b d) = absurd (w y b.lawful)
-  opening_once e (Opening.asks y h n k a c) (Opening.all_Asked i d) = absurd (omega arith)
+  opening_once e (Opening.asks y h n k a c) (Opening.all_asked i d) = absurd (omega arith)
   opening_once {k = v} e (Opening.asks y h n k a c) (Opening.passes i m d) = absurd (neither (G v) n m)
   opening_once e (Opening.asks y h n k a c) (Opening.not_taken i m t) = absurd (t k)
   opening_once e (Opening.asks y h n k a c) (Opening.without i m t v) = absurd (v y a.lawful)

@@ -75,7 +75,7 @@ module _ {C : Type 0} (S : Measure C) (Q : Problem) (G : Group) (Taken : Group �
 
   pub reached_start : (k : ℕ) (z : Plan) → k ≡ Q.rows → Opened S Q G Taken k z → Reached S Q G Taken alone z
   reached_start k z e h =
-      record { sheet = h.sheet; same = λ r t m l. h.same r t (omega (arith, m.a_row)) m l; onward = λ o c. h.onward o (Opening.all-Asked e c) }
+      record { sheet = h.sheet; same = λ r t m l. h.same r t (omega (arith, m.a_row)) m l; onward = λ o c. h.onward o (Opening.all_asked e c) }
 
   module _ (name : Naming) where
     pub reached_not_taken : (z : Plan) (t r q : ℕ) → Reached S Q G Taken name z → FirstClash Q G name z t r q → (Taken (union G name r q) → ⊥) → Whole S Q G Taken beyond

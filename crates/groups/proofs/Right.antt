@@ -112,7 +112,7 @@ module _ {C : Type 0} (S : Measure C) (L : MeasureLaws S) (Q : Problem) (K : Pro
 
     opening_right : {k : ℕ} {x : Plan} {o : Outcome} → k ≤ Q.rows → ((g : ℕ) → g < k → Best S Q (part G alone g) x)
         → Opening S Q G Taken k x o → Says S Q G o
-    opening_right {x} i h (Opening.all_Asked e c) = course_right {name = alone} {x = x} (alone_names Q G) (unfold Known in λ g j. h g (omega arith)) c
+    opening_right {x} i h (Opening.all_asked e c) = course_right {name = alone} {x = x} (alone_names Q G) (unfold Known in λ g j. h g (omega arith)) c
     opening_right {k = n} {x} i h (Opening.passes j a c) = opening_right j (λ g l. go g l (cases_eq g n)) c
       where
         go : (g : ℕ) → g < suc n → (g ≡ n) ⊎ (g ≡ n → ⊥) → Best S Q (part G alone g) x

@@ -31,5 +31,5 @@ returns c =
     let all : length (line_of bs) ≤ 3 * c.loop-i.i = omega (arith, length_line_of bs (omega arith)) in
     record {
       the_line_is_written = c.loop-i.invariant ∙ ap (written c.args.out.now c.args.at) (take_all (3 * c.loop-i.i) (line_of bs) all);
-      all_are_bytes = all_below bs (λ k. omega (arith, c.type-inv.bytes k));
+      all_are_bytes = all_below bs (λ k. omega (arith, c.type_inv.bytes k));
     }

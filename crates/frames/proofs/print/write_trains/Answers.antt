@@ -35,7 +35,7 @@ loop-row-preserved c =
           ∙ ap (λ (z : List ℕ). written z at (line_of new)) c.loop-row.invariant.0
           ∙ written_behind old at front _ (length_trains o s steps row)
           ∙ ap (written old 0) (sym (trains_more o s steps row)),
-      trains_back o s steps row c.loop-row.invariant.1 (round_trip new (omega arith) (omega (arith, c.requires.0)) small),
+      trains_back o s steps row c.loop-row.invariant.1 (round_trip new (omega arith) (omega (arith, c.requires.steps_bound)) small),
     )
 
 pub returns : goal.returns
@@ -55,5 +55,8 @@ write_line-requires c =
     let e : 4 + steps - 0 ≡ 4 + steps = omega arith in
     let long : length (take (4 + steps - 0) c.train_bytes-bytes.result) ≡ 4 + steps =
     ap (λ (k : ℕ). length (take k c.train_bytes-bytes.result)) e ∙ ap length c.train_bytes-bytes.ensures.its_number_and_where_it_stands ∙ length_train c.number_of.result (plan_of c.args.sheet.now row) steps in
-    let more : row * (3 * (4 + steps)) + 3 * (4 + steps) ≤ length c.args.out.now = room row (rows_of c.args.roster.now) (3 * (4 + steps)) (length c.args.out.now) (omega (arith, c.count-row-end.ensures.as_many_as_there_are_rows)) c.requires.1 in
-    (omega (arith, c.loop-row.auto.out), omega arith)
+    let more : row * (3 * (4 + steps)) + 3 * (4 + steps) ≤ length c.args.out.now = room row (rows_of c.args.roster.now) (3 * (4 + steps)) (length c.args.out.now) (omega (arith, c.count-row-end.ensures.as_many_as_there_are_rows)) c.requires.steps_in_bounds in
+    record {
+      bytes_in_bounds = omega (arith, c.loop-row.auto.out);
+      bytes_nonzero = omega arith;
+    }

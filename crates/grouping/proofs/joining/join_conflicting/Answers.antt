@@ -94,6 +94,6 @@ returns g c =
       asking_leaves_the_meaning = c.loop-conflict.invariant.meaning;
       so_many_groups_stand_or_the_course_has_ended =
           parts_end (g.Q.Search.takes c.args.below.now) (g.Q.Search.takes c.loop-conflict.below) i (length c.args.cells.now) c.args.draft.now (naming c.loop-conflict.parts) c.loop-conflict.draft c.count.result
-          c.loop-conflict.invariant c.in-default.ensures.the_first_conflict_between_parts_or_none c.count.ensures.one_for_each_row_that_its_part_goes_by;
+          c.loop-conflict.invariant c.in_default.ensures.the_first_conflict_between_parts_or_none c.count.ensures.one_for_each_row_that_its_part_goes_by;
       other_places_are_as_they_were = c.loop-conflict.invariant.others;
     }

@@ -17,7 +17,7 @@ loop-p-preserved c =
     ]
 
 pub invariant_of-result : goal.invariant_of-result
-invariant_of-result c = (c.loop-p.invariant.1, tt)
+invariant_of-result c = record { rows = c.loop-p.invariant.1 }
 
 pub returns : goal.returns
 returns c = record {
