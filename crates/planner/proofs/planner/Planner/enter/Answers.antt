@@ -11,7 +11,9 @@ invariant_of-self g c =
     let k = meaning g.R.Rule.conflicts g.S.Scale.measure g.Q.Search.takes in
     let r = c.enter.result in
     let left = c.enter.ensures.a_refusal_changes_nothing ∙ done_left r _ _ in
-    (still_placed k c.args.self.now (enter c.args.number c.args.start c.args.goal) accepted accepted (refused_by r) c.enter.ensures.the_first_condition_met_declines c.enter.new.self left, tt)
+    record {
+      placed = still_placed k c.args.self.now (enter c.args.number c.args.start c.args.goal) accepted accepted (refused_by r) c.enter.ensures.the_first_condition_met_declines c.enter.new.self left;
+    }
 
 pub returns : goal.returns
 returns g c =

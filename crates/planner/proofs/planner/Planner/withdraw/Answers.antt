@@ -12,7 +12,9 @@ invariant_of-self g c =
     let k = meaning g.R.Rule.conflicts g.S.Scale.measure g.Q.Search.takes in
     let r = c.withdraw.result in
     let left = c.withdraw.ensures.a_refusal_changes_nothing ∙ done_left r _ _ in
-    (still_placed k c.args.self.now (withdraw c.args.number) accepted accepted (refused_by r) (c.withdraw.ensures.the_first_condition_met_declines (sections_of c.args.self.now.layout)) c.withdraw.new.self left, tt)
+    record {
+      placed = still_placed k c.args.self.now (withdraw c.args.number) accepted accepted (refused_by r) (c.withdraw.ensures.the_first_condition_met_declines (sections_of c.args.self.now.layout)) c.withdraw.new.self left;
+    }
 
 pub returns : goal.returns
 returns g c =
