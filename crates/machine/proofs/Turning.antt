@@ -32,14 +32,14 @@ module _ {R S Q C : Type 0} (k : Meaning R S Q C) (rule : R) (scale : S) (below 
       (says : reply ≡ says_done r)
       (judged : refused_by r ≡ f (drawn d.drawing))
       (left : drawn e.drawing ≡ granted r (g (drawn d.drawing)) (drawn d.drawing))
-      (same_rule : e.rule ≡ d.rule) (same_Scale : e.scale ≡ d.scale) (same_search : e.below ≡ d.below) where
+      (same_rule : e.rule ≡ d.rule) (same_scale : e.scale ≡ d.scale) (same_search : e.below ≡ d.below) where
     pub draw_turn : TurnOwes k rule scale below (Drawing d) asked reply s s (Drawing e)
     draw_turn (drawing m) h =
         let j : refused_by r ≡ f m = judged ∙ ap f h.drawing in
         let to : drawn e.drawing ≡ unless (f m) (g m) m =
         left ∙ granted_unless r (g (drawn d.drawing)) (drawn d.drawing) ∙ (λ i. unless (j i) (g (h.drawing i)) (h.drawing i)) in
         let next : StandsDrawing k rule scale below (unless (f m) (g m) m) e =
-        record { drawing = to; its_rule = same_rule ∙ h.its_rule; its_scale = same_Scale ∙ h.its_scale; its_search = same_search ∙ h.its_search } in (
+        record { drawing = to; its_rule = same_rule ∙ h.its_rule; its_scale = same_scale ∙ h.its_scale; its_search = same_search ∙ h.its_search } in (
           kept m (says ∙ says_refused r ∙ ap (λ (o : Option ℕ). unless_declined o accepted) j, refl),
           subst (λ (p : Progress). StandsAt k rule scale below p (Drawing e)) (sym (goes m)) next,
         )

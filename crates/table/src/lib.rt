@@ -2,6 +2,7 @@
 // and reads the best sheet off these costs.
 #![tactic(auto)]
 
+pub mod as_search;
 pub mod candidates;
 pub mod codes;
 pub mod fill;
@@ -9,7 +10,6 @@ pub mod filled;
 pub mod known;
 pub mod pick;
 pub mod read;
-pub mod search;
 pub mod step;
 pub mod table;
 pub mod tries;

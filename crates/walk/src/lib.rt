@@ -1,8 +1,8 @@
 // The walk search: it tries the sheets of a group in their order, and keeps the first of the least.
 #![tactic(auto)]
 
+pub mod as_search;
 pub mod bounds;
 pub mod explore;
 pub mod make;
-pub mod search;
 pub mod walk;

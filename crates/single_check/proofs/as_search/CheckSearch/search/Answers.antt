@@ -2,7 +2,7 @@ use Rattle.std.proofs.Common.{length}
 use Rattle.std.proofs.lemmas.Bool.{both_ways}
 use Rattle.sheets.specs.Inquiry.{inquiry}
 use Rattle.single_check.proofs.Stuck.{answered_stuck, answered_below, taken_same}
-use Rattle.single_check.proofs.search.CheckSearch.search.Goals as goal
+use Rattle.single_check.proofs.as_search.CheckSearch.search.Goals as goal
 
 pub returns-then-some_train_is_stuck : goal.returns-then-some_train_is_stuck
 returns-then-some_train_is_stuck g c =

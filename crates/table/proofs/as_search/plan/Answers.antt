@@ -3,7 +3,7 @@ use Rattle.sheets.proofs.Posed.{sound}
 use Rattle.words.proofs.Solving.{rows, none_lawful, solved_by, trains_most}
 use Rattle.table.proofs.Whole.{cells_fit}
 use Rattle.table.specs.Columns.{KeptFrom}
-use Rattle.table.proofs.search.plan.Goals as goal
+use Rattle.table.proofs.as_search.plan.Goals as goal
 
 pub power-size-requires : goal.power-size-requires
 power-size-requires g c = (c.sections.ensures.at_most_thirty_two, trains_most (g.R.Rule.conflicts c.args.rule.now) c.args.question.now c.choose-chosen.result c.choose-chosen.ensures.the_rows_of_the_group_in_rising_order)

@@ -4,7 +4,7 @@ use Rattle.table.specs.Columns.{KeptFrom}
 use Rattle.table.proofs.Whole.{based, ready, cells_used}
 use Rattle.table.proofs.Worksheets.{filled_knows}
 use Rattle.words.proofs.Solving.{trains_some}
-use Rattle.table.proofs.search.best_of.Goals as goal
+use Rattle.table.proofs.as_search.best_of.Goals as goal
 
 pub fill-requires : goal.fill-requires
 fill-requires g c = record {

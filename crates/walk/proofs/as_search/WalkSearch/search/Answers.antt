@@ -1,7 +1,7 @@
 use Rattle.std.proofs.Common.{◌≤◌, refl, subst}
 use Rattle.sheets.proofs.Posed.{sound}
 use Rattle.words.proofs.Solving.{rows, none_lawful, solved_by}
-use Rattle.walk.proofs.search.WalkSearch.search.Goals as goal
+use Rattle.walk.proofs.as_search.WalkSearch.search.Goals as goal
 
 pub write-requires : goal.write-requires
 write-requires g c = record {

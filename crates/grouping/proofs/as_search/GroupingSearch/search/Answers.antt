@@ -2,7 +2,7 @@ use Rattle.std.proofs.Common.{length}
 use Rattle.sheets.specs.Inquiry.{inquiry}
 use Rattle.sheets.proofs.Posed.{laws_of}
 use Rattle.grouping.specs.Taking.{meaning_moved, none_answered, found_answered}
-use Rattle.grouping.proofs.search.GroupingSearch.search.Goals as goal
+use Rattle.grouping.proofs.as_search.GroupingSearch.search.Goals as goal
 
 pub returns-in-BeyondReach : goal.returns-in-BeyondReach
 returns-in-BeyondReach g c =

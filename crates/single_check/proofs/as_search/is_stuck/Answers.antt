@@ -3,7 +3,7 @@ use Rattle.roster.proofs.Laws.{rows_most}
 use Rattle.sheets.specs.Inquiry.{problem_of}
 use Rattle.sheets.specs.Posing.{marked}
 use Rattle.single_check.proofs.Stuck.{stuck_exactly}
-use Rattle.single_check.proofs.search.is_stuck.Goals as goal
+use Rattle.single_check.proofs.as_search.is_stuck.Goals as goal
 
 pub bounds-question-row : goal.bounds-question-row
 bounds-question-row c = omega (arith, c.requires, rows_most c.args.question.now.roster.now)

@@ -3,7 +3,7 @@ use Rattle.std.proofs.lemmas.Bool.{cases_lt, both_ways, false≢true}
 use Rattle.sheets.specs.Inquiry.{problem_of}
 use Rattle.sheets.specs.Posing.{marked}
 use Rattle.single_check.specs.Ways.{StuckTrain}
-use Rattle.single_check.proofs.search.some_train_is_stuck.Goals as goal
+use Rattle.single_check.proofs.as_search.some_train_is_stuck.Goals as goal
 
 pub loop-row-init : goal.loop-row-init
 loop-row-init c = λ k r h s. absurd (omega (arith, h))

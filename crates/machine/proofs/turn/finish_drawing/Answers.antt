@@ -1,0 +1,13 @@
+use Rattle.std.proofs.Common.{refl}
+use Rattle.planner.specs.History.{meaning}
+use Rattle.machine.proofs.Turning.{finish_turn}
+use Rattle.machine.proofs.turn.finish_drawing.Goals as goal
+
+pub returns : goal.returns
+returns g c =
+    let k = meaning g.R.Rule.conflicts g.S.Scale.measure g.Q.Search.takes in
+    let p = c.new-planner in
+    let parts = p.ensures.it_has_these_parts in
+    record {
+      the_reply_is_kept = λ rule scale below s. finish_turn k rule scale below c.args.desk p.result s ? parts.1 parts.2 parts.3 p.ensures.its_history_is_empty.stands;
+    }
