@@ -1,4 +1,5 @@
-use Rattle.std.proofs.Common.{refl}
+use Rattle.std.proofs.Common.{ap, ◌∙◌}
+use Rattle.track.specs.Model.{laid}
 use Rattle.planner.specs.History.{meaning}
 use Rattle.machine.proofs.Turning.{finish_turn}
 use Rattle.machine.proofs.turn.finish_drawing.Goals as goal
@@ -9,5 +10,5 @@ returns g c =
     let p = c.new-planner in
     let parts = p.ensures.it_has_these_parts in
     record {
-      the_reply_is_kept = λ rule scale below s. finish_turn k rule scale below c.args.desk p.result s ? parts.1 parts.2 parts.3 p.ensures.its_history_is_empty.stands;
+      the_reply_is_kept = λ rule scale below s. finish_turn k rule scale below c.args.desk p.result s (ap laid parts.0 ∙ c.finish-layout.ensures.the_layout_is_what_was_drawn) parts.1 parts.2 parts.3 p.ensures.its_history_is_empty.stands;
     }
