@@ -1,15 +1,12 @@
 -- How the course ends, told of the search as it was at first.
-use Rattle.std.proofs.Common.{◌≡◌, ℕ, sym, refl, ap, ◌∙◌, subst}
-use Rattle.rules.specs.Conflicts.{Conflicts}
-use Rattle.sheets.specs.Problem.{Group}
-use Rattle.sheets.specs.Plan.{Plan, SameOn, cost}
+use Rattle.std.proofs.Common.{◌≡◌, ℕ, sym, subst}
+use Rattle.sheets.specs.Plan.{cost}
 use Rattle.sheets.specs.Theorems.{Same}
 use Rattle.sheets.specs.Inquiry.{Inquiry, plan_of}
 use Rattle.sheets.specs.declared.sheet.Sheet.{Sheet}
 use Rattle.search.specs.Answers.{OthersKept}
-use Rattle.groups.specs.Parts.{Naming, alone}
-use Rattle.groups.specs.Course.{Outcome, beyond, none, found}
-use Rattle.groups.specs.Onward.{Reached}
+use Rattle.groups.specs.Parts.{Naming}
+use Rattle.groups.specs.Course.{Outcome, found}
 use Rattle.groups.proofs.Moved.{course_moved, whole_moved}
 use Rattle.grouping.specs.Ends.{about, Ends, Given}
 use Rattle.grouping.specs.Asking.{Stand, EndsIn}

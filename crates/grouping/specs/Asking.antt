@@ -8,7 +8,7 @@ use Rattle.sheets.specs.declared.question.Question.{Question}
 use Rattle.sheets.specs.declared.sheet.Sheet.{Sheet}
 use Rattle.search.specs.declared.answer.Answer.{Answer}
 use Rattle.search.specs.declared.answer.Answer.TheVariants.{BeyondReach, NoSheet, Found}
-use Rattle.groups.specs.Parts.{Naming, alone}
+use Rattle.groups.specs.Parts.{Naming}
 use Rattle.groups.specs.Course.{beyond, none, found}
 use Rattle.groups.specs.Onward.{Reached}
 use Rattle.grouping.specs.Ends.{about, Ends}

@@ -1,18 +1,17 @@
 -- What each answer of the search below does to the course.
-use Rattle.std.specs.Prelude.{◌≡◌, ℕ, suc, ◌+◌, ◌<◌, ◌≤◌, Bool, true, false, ◌⊎◌, ◌≢◌, refl}
-use Rattle.std.proofs.Common.{sym, ◌∙◌, ap, subst, inl, inr, arith, add-one}
+use Rattle.std.specs.Prelude.{◌≡◌, ℕ, ◌+◌, ◌<◌, true, false, ◌≢◌, refl}
+use Rattle.std.proofs.Common.{sym, ◌∙◌, ap, subst, arith, add-one}
 use Rattle.std.proofs.lemmas.Bool.{both_ways}
 use Rattle.sheets.specs.Problem.{Problem, Group, Member}
-use Rattle.sheets.specs.Plan.{Plan, SameOn, Best, Without}
 use Rattle.sheets.specs.Theorems.{Same}
 use Rattle.sheets.specs.Inquiry.{Inquiry, plan_of}
 use Rattle.sheets.specs.declared.sheet.Sheet.{Sheet}
-use Rattle.search.specs.Answers.{Answered, OthersKept, Solved}
+use Rattle.search.specs.Answers.{Answered, OthersKept}
 use Rattle.search.specs.declared.answer.Answer.{Answer}
 use Rattle.search.specs.declared.answer.Answer.TheVariants.{BeyondReach, NoSheet, Found}
 use Rattle.groups.specs.Parts.{Naming, Names, part, alone, merged, union, parts, NoClash, FirstClash}
-use Rattle.groups.specs.Course.{Outcome, beyond, none, found}
-use Rattle.groups.specs.Onward.{Opened, Reached}
+use Rattle.groups.specs.Course.{Outcome, beyond, none}
+use Rattle.groups.specs.Onward.{Opened}
 use Rattle.groups.proofs.Right.{part_rows, alone_names, merged_names, merged_out}
 use Rattle.groups.proofs.Fewer.{merged_fewer}
 use Rattle.groups.proofs.Onward.{KeptBut, opened_start, opened_pass, opened_not_taken, opened_none, opened_next, reached_start, reached_not_taken, reached_none, reached_next, reached_end}

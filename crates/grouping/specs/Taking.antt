@@ -1,12 +1,11 @@
 -- Which groups the grouping takes, and what its answers say of the group.
 use Rattle.std.specs.Prelude.{◌≡◌, ℕ, zero, suc, ◌+◌, ◌<◌, ◌≤◌, Bool, true, false, cond, ◌&&◌, ◌⊎◌, ◌==◌, ◌≢◌}
 use Rattle.std.proofs.Math.Path.{refl}
-use Rattle.std.proofs.Common.{sym, ◌∙◌, ap, subst, inl, inr, arith}
-use Rattle.std.proofs.lemmas.Bool.{cases_eq, cases_lt, eq-eqb, ne_eqb, and_from, and_right, both_ways}
-use Rattle.scales.specs.Measure.{Measure, MeasureLaws}
-use Rattle.sheets.specs.Problem.{Problem, ProblemLaws, Group, Member, count}
-use Rattle.sheets.specs.Plan.{Plan, SameOn, Best, Without}
-use Rattle.sheets.specs.Theorems.{Same}
+use Rattle.std.proofs.Common.{sym, ◌∙◌, ap, inl, inr, arith}
+use Rattle.std.proofs.lemmas.Bool.{cases_eq, eq-eqb, ne_eqb, and_from, and_right, both_ways}
+use Rattle.scales.specs.Measure.{MeasureLaws}
+use Rattle.sheets.specs.Problem.{ProblemLaws, Group, count}
+use Rattle.sheets.specs.Plan.{Plan, Without}
 use Rattle.sheets.specs.Inquiry.{Inquiry, plan_of}
 use Rattle.sheets.specs.declared.sheet.Sheet.{Sheet}
 use Rattle.sheets.proofs.Sheets.{best_same}
@@ -17,7 +16,6 @@ use Rattle.groups.specs.Laws.{Agree}
 use Rattle.groups.proofs.Once.{a_course_has_one_outcome}
 use Rattle.groups.proofs.Right.{a_course_is_right}
 use Rattle.groups.proofs.Moved.{whole_moved}
-use Rattle.groups.proofs.Fewer.{count_same}
 use Rattle.grouping.specs.Ends.{about, taken, Ends, NeverBeyond, Given}
 use Rattle.grouping.specs.Following.{SameMeaning}
 

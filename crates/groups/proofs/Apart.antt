@@ -1,11 +1,11 @@
 -- Best sheets of parts that do not conflict make the best sheet of the group.
-use Rattle.std.proofs.Common.{◌≡◌, ℕ, zero, suc, ◌+◌, ◌*◌, ◌<◌, ◌≤◌, Bool, true, false, cond, ◌&&◌, ◌||◌, eqb, ltb, ◌⊎◌, sym, refl, ap, ◌∙◌, ap₂, inl, inr, ⊎_elim, true≢false, arith}
+use Rattle.std.proofs.Common.{◌≡◌, ℕ, zero, suc, ◌+◌, ◌<◌, ◌≤◌, Bool, true, false, cond, ◌&&◌, ◌||◌, eqb, ltb, ◌⊎◌, sym, refl, ap, ◌∙◌, ap₂, inl, inr, ⊎_elim, true≢false, arith}
 use mathlib.Core.Bool.{false≢true}
 use Rattle.std.proofs.lemmas.Bool.{cases_order, or_cases, or_left, or_right, both_ways, and_from, and_parts, and_right, eqb-true, eq-eqb, ne_eqb, ltb-true, lt-ltb, le-ltb}
 use Rattle.scales.specs.Measure.{Measure, MeasureLaws, joined}
 use Rattle.scales.proofs.Joins.{joined_same, joined_join, nothing_join, join_lower_both}
 use Rattle.sheets.specs.Problem.{Problem, ProblemLaws, Group, Member}
-use Rattle.sheets.specs.Plan.{Plan, Lawful, SameOn, Earlier, Before, Best, Wins, Without, clash, row_cost, cost}
+use Rattle.sheets.specs.Plan.{Plan, Lawful, SameOn, Earlier, Before, Best, Wins, clash, row_cost, cost}
 use Rattle.sheets.proofs.Places.{earlier_trans, earlier_time, places}
 use Rattle.sheets.proofs.Costs.{row_size, cost_size, cost_same}
 use Rattle.sheets.proofs.Sheets.{best_same}

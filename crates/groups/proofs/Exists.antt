@@ -1,13 +1,13 @@
 -- There is a course wherever it is decided which groups are taken.
-use Rattle.std.proofs.Common.{◌≡◌, ℕ, zero, suc, ◌+◌, ◌<◌, ◌≤◌, Bool, true, false, ◌⊎◌, sym, refl, ap, ◌∙◌, inl, inr, arith}
+use Rattle.std.proofs.Common.{◌≡◌, ℕ, zero, suc, ◌+◌, ◌<◌, ◌≤◌, true, false, ◌⊎◌, ap, ◌∙◌, inl, inr, arith}
 use Rattle.std.proofs.lemmas.Bool.{cases_Bool, cases_eq, cases_lt, both_ways}
 use Rattle.scales.specs.Measure.{Measure, MeasureLaws}
 use Rattle.sheets.specs.Problem.{Problem, ProblemLaws, Group, Member}
-use Rattle.sheets.specs.Plan.{Plan, Best, Without, Earlier, clash}
+use Rattle.sheets.specs.Plan.{Plan, Best, Without, clash}
 use Rattle.sheets.proofs.Least.{least}
 use Rattle.sheets.proofs.Exists.{best_or_none}
 use Rattle.groups.specs.Parts.{Naming, Names, part, alone, merged, union, parts, NoClash, Sooner, FirstClash, put}
-use Rattle.groups.specs.Course.{Outcome, beyond, none, found, Course, Opening, Whole}
+use Rattle.groups.specs.Course.{Outcome, beyond, none, found, Course, Opening}
 use Rattle.groups.specs.Laws.{ACourseExistsWhereTakingIsDecided}
 use Rattle.groups.proofs.Right.{merged_names, alone_names}
 use Rattle.groups.proofs.Fewer.{merged_fewer}

@@ -1,9 +1,8 @@
 -- There are at first as many parts as trains, and each joining leaves one fewer.
-use Rattle.std.proofs.Common.{◌≡◌, ℕ, zero, suc, ◌+◌, ◌<◌, ◌≤◌, Bool, true, false, cond, ◌&&◌, eqb, ◌⊎◌, sym, refl, ap, ◌∙◌, ap₂, inl, inr, arith}
-use Rattle.std.proofs.lemmas.Bool.{cases_eq, cases_Bool, eq-eqb, ne_eqb, and_from, and_left, and_right}
+use Rattle.std.proofs.Common.{◌≡◌, ℕ, zero, suc, ◌+◌, ◌<◌, Bool, true, false, cond, ◌&&◌, eqb, ◌⊎◌, sym, refl, ap, ◌∙◌, inl, inr, arith}
+use Rattle.std.proofs.lemmas.Bool.{cases_eq, eq-eqb, ne_eqb, and_from, and_right}
 use Rattle.sheets.specs.Problem.{Problem, Group, Member, count}
-use Rattle.sheets.specs.Plan.{Plan}
-use Rattle.groups.specs.Parts.{Naming, Names, alone, merged, parts, FirstClash}
+use Rattle.groups.specs.Parts.{Naming, Names, merged, parts}
 use Rattle.groups.specs.Laws.{AsManyPartsAsTrainsAtFirst, EachJoiningTakesOneAway}
 use Rattle.groups.proofs.Right.{merged_in, merged_out, merged_names, alone_names}
 

@@ -1,5 +1,5 @@
 -- A course rests only on which groups are taken.
-use Rattle.std.proofs.Common.{◌≡◌, ℕ}
+use Rattle.std.proofs.Common.{ℕ}
 use Rattle.scales.specs.Measure.{Measure}
 use Rattle.sheets.specs.Problem.{Problem, Group}
 use Rattle.sheets.specs.Plan.{Plan}

@@ -1,5 +1,5 @@
 -- A course has one outcome.
-use Rattle.std.proofs.Common.{◌≡◌, ℕ, zero, suc, ◌+◌, ◌<◌, ◌≤◌, Bool, true, false, cond, ◌⊎◌, sym, refl, ap, ◌∙◌, subst₂, inl, inr, ⊎_elim, arith}
+use Rattle.std.proofs.Common.{◌≡◌, ℕ, ◌+◌, ◌<◌, Bool, true, false, cond, ◌⊎◌, sym, refl, ◌∙◌, subst₂, inl, inr, arith}
 use Rattle.std.proofs.lemmas.Bool.{cases_order, both_ways}
 use Rattle.scales.specs.Measure.{Measure, MeasureLaws}
 use Rattle.sheets.specs.Problem.{Problem, ProblemLaws, Group, Member}
@@ -7,7 +7,7 @@ use Rattle.sheets.specs.Plan.{Plan, Lawful, SameOn, Earlier, Best, Without, clas
 use Rattle.sheets.proofs.Places.{places}
 use Rattle.sheets.proofs.Sheets.{best_unique}
 use Rattle.groups.specs.Parts.{Naming, part, alone, merged, union, NoClash, Sooner, FirstClash, put}
-use Rattle.groups.specs.Course.{Outcome, beyond, none, found, Course, Opening, Whole}
+use Rattle.groups.specs.Course.{Outcome, Course, Opening}
 use Rattle.groups.specs.Laws.{Agree, ACourseHasOneOutcome}
 
 -- sheets that agree conflict at the same places

@@ -1,11 +1,11 @@
 -- The course seen from a program that follows it: what it keeps from one asking to the next, and what it may say at the end.
-use Rattle.std.proofs.Common.{◌≡◌, ℕ, zero, suc, ◌+◌, ◌<◌, ◌≤◌, Bool, true, false, cond, eqb, ◌⊎◌, sym, refl, ap, ◌∙◌, inl, inr, arith}
-use Rattle.std.proofs.lemmas.Bool.{eqb-false, cases_eq, and_from, eq-eqb, both_ways}
+use Rattle.std.proofs.Common.{◌≡◌, ℕ, suc, ◌<◌, ◌≤◌, Bool, true, false, cond, eqb, ◌⊎◌, sym, refl, ap, ◌∙◌, inl, inr, arith}
+use Rattle.std.proofs.lemmas.Bool.{cases_eq, and_from, eq-eqb, both_ways}
 use Rattle.scales.specs.Measure.{Measure}
 use Rattle.sheets.specs.Problem.{Problem, Group, Member}
-use Rattle.sheets.specs.Plan.{Plan, SameOn, Best, Without, clash}
+use Rattle.sheets.specs.Plan.{Plan, SameOn, Best, Without}
 use Rattle.groups.specs.Parts.{Naming, part, alone, merged, union, parts, NoClash, Sooner, FirstClash, put}
-use Rattle.groups.specs.Course.{Outcome, beyond, none, found, Course, Opening, Whole}
+use Rattle.groups.specs.Course.{beyond, none, found, Course, Opening, Whole}
 use Rattle.groups.specs.Onward.{Opened, Reached}
 use Rattle.groups.proofs.Once.{clash_same}
 

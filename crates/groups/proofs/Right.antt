@@ -1,13 +1,13 @@
 -- What a course ends with is so of the whole group.
-use Rattle.std.proofs.Common.{◌≡◌, ℕ, zero, suc, ◌+◌, ◌<◌, ◌≤◌, Bool, true, false, cond, ◌&&◌, eqb, ◌⊎◌, sym, refl, ap, ◌∙◌, inl, inr, arith}
+use Rattle.std.proofs.Common.{◌≡◌, ℕ, suc, ◌<◌, ◌≤◌, Bool, false, ◌&&◌, eqb, ◌⊎◌, sym, refl, ap, ◌∙◌, inl, inr, arith}
 use mathlib.Core.Path.{fun_ext}
-use Rattle.std.proofs.lemmas.Bool.{cases_Bool, cases_eq, eq-eqb, ne_eqb, cond-true, cond-false, and_left, and_right}
+use Rattle.std.proofs.lemmas.Bool.{cases_eq, eq-eqb, ne_eqb, cond-true, cond-false, and_left, and_right}
 use Rattle.scales.specs.Measure.{Measure, MeasureLaws}
 use Rattle.sheets.specs.Problem.{Problem, ProblemLaws, Group, Member}
-use Rattle.sheets.specs.Plan.{Plan, SameOn, Best, clash}
+use Rattle.sheets.specs.Plan.{Plan, SameOn, Best}
 use Rattle.sheets.proofs.Sheets.{best_same}
-use Rattle.groups.specs.Parts.{Naming, Names, part, alone, merged, union, FirstClash, put}
-use Rattle.groups.specs.Course.{Outcome, Course, Opening, Whole}
+use Rattle.groups.specs.Parts.{Naming, Names, part, alone, merged, union, put}
+use Rattle.groups.specs.Course.{Outcome, Course, Opening}
 use Rattle.groups.specs.Laws.{Says, ACourseIsRight}
 use Rattle.groups.proofs.Apart.{best_none, all_best, a_part_without_a_sheet_leaves_none, part_member}
 

@@ -1,8 +1,8 @@
 -- The first of all conflicts, by three loops.
-use Rattle.std.proofs.Common.{◌≡◌, ℕ, ◌+◌, ◌<◌, ◌≤◌, Bool, true, false, not, ◌&&◌, eqb, ◌⊎◌, sym, refl, ap, ◌∙◌, subst, inl, inr, ⊎_elim, arith}
-use Rattle.std.proofs.lemmas.Bool.{cases_lt, cases_Bool, and_from, and_parts, and_left, and_right, eqb-false, eqb-true, ne_eqb, not-true, not-false, both_ways}
+use Rattle.std.proofs.Common.{◌≡◌, ℕ, ◌+◌, ◌<◌, ◌≤◌, Bool, true, false, not, ◌&&◌, eqb, sym, refl, ap, ◌∙◌, subst, inl, inr, ⊎_elim, arith}
+use Rattle.std.proofs.lemmas.Bool.{cases_lt, and_from, and_parts, and_left, and_right, eqb-false, ne_eqb, not-true, both_ways}
 use Rattle.sheets.specs.Problem.{Problem, Group, Member}
-use Rattle.sheets.specs.Plan.{Plan, Earlier, clash}
+use Rattle.sheets.specs.Plan.{Plan, clash}
 use Rattle.groups.specs.Parts.{Naming, NoClash, Sooner, FirstClash}
 
 module _ (Q : Problem) (G : Group) (name : Naming) (x : Plan) where

@@ -1,9 +1,9 @@
 -- Names in a table of eight rows.
-use Rattle.std.proofs.Common.{◌≡◌, ℕ, zero, suc, ◌+◌, ◌<◌, ◌≤◌, Bool, true, false, cond, ◌&&◌, eqb, ltb, ◌⊎◌, List, [], ◌∷◌, length, get_or, set, sym, refl, ap, ◌∙◌, subst, inl, inr, ⊎_elim, arith, length-set, get_or-set_other, get_or-set_same}
+use Rattle.std.proofs.Common.{◌≡◌, ℕ, zero, suc, ◌+◌, ◌<◌, ◌≤◌, Bool, true, false, cond, ◌&&◌, eqb, ltb, ◌⊎◌, List, [], ◌∷◌, length, get_or, set, sym, refl, ap, ◌∙◌, inl, inr, arith, length-set, get_or-set_other, get_or-set_same}
 use mathlib.Core.Path.{fun_ext}
 use Rattle.std.proofs.lemmas.Bool.{cases_lt, cases_eq, and_parts, and_from, and_left, ltb-true, lt-ltb, eq-eqb, ne_eqb, cond-true, cond-false}
 use Rattle.groups.specs.Names.{all_rows}
-use Rattle.groups.specs.Parts.{Naming, alone, merged, part}
+use Rattle.groups.specs.Parts.{merged, part}
 use Rattle.groups.specs.Model.{naming}
 use Rattle.groups.specs.declared.parts.Parts.{Parts}
 

@@ -1,6 +1,6 @@
 -- The course of the grouping: each train alone is asked for its best sheet, and as long as two parts conflict, the two that conflict first
 -- are joined, whole, and asked for again.
-use Rattle.std.specs.Prelude.{◌≡◌, ℕ, suc, ◌<◌, Bool, true, false}
+use Rattle.std.specs.Prelude.{◌≡◌, ℕ, suc, ◌<◌, true, false}
 use Rattle.scales.specs.Measure.{Measure}
 use Rattle.sheets.specs.Problem.{Problem, Group}
 use Rattle.sheets.specs.Plan.{Plan, Best, Without}

@@ -1,5 +1,5 @@
 -- What the program's parts say.
-use Rattle.std.specs.Prelude.{ℕ, slice_index_or}
+use Rattle.std.specs.Prelude.{slice_index_or}
 use Rattle.groups.specs.Parts.{Naming}
 use Rattle.groups.specs.declared.parts.Parts.{Parts}
 

@@ -1,5 +1,5 @@
 -- A group of rows split into parts, and conflicts between the parts.
-use Rattle.std.specs.Prelude.{◌≡◌, ℕ, ◌<◌, Bool, true, false, cond, ◌&&◌, ◌||◌, ◌⊎◌, ◌==◌, ◌≢◌}
+use Rattle.std.specs.Prelude.{◌≡◌, ℕ, ◌<◌, true, false, cond, ◌&&◌, ◌⊎◌, ◌==◌, ◌≢◌}
 use Rattle.sheets.specs.Problem.{Problem, Group, Member, count}
 use Rattle.sheets.specs.Plan.{Plan, Earlier, clash}
 

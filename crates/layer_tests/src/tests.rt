@@ -1,6 +1,4 @@
 use crate::throat;
-use single_check::check::Check;
-use single_check::reach::fewest_steps;
 use grouping::grouping::Grouping;
 use roster::roster::Roster;
 use roster::train::Train;
@@ -12,6 +10,8 @@ use search::answer::Answer;
 use search::search::Search;
 use sheets::pose::ask;
 use sheets::sheet::Sheet;
+use single_check::check::Check;
+use single_check::reach::fewest_steps;
 use std::process::Abort;
 use std::test::Fail;
 use table::table::Table;

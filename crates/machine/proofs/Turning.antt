@@ -1,19 +1,18 @@
 -- One frame more, before the finish and after it.
-use Rattle.std.proofs.Common.{◌≡◌, ℕ, List, [], ◌∷◌, ◌++◌, Some, None, Ok, Err, Option, Result, sym, refl, ap, ◌∙◌, subst}
+use Rattle.std.proofs.Common.{◌≡◌, ℕ, [], Ok, Err, Option, Result, sym, refl, ap, ◌∙◌, subst}
 use Rattle.track.specs.Model.{Model, drawn, laid}
-use Rattle.track.specs.Refusals.{number_of, refused_by, granted}
+use Rattle.track.specs.Refusals.{refused_by, granted}
 use Rattle.track.specs.declared.refusal.Refusal.{Refusal}
 use Rattle.roster.specs.Book.{Call}
 use Rattle.sheets.specs.declared.sheet.Sheet.{Sheet}
-use Rattle.planner.specs.Promise.{Reply, accepted, declined, unless_declined}
-use Rattle.planner.specs.History.{Meaning, Stands, Step, History, event, says_done}
+use Rattle.planner.specs.Promise.{Reply, accepted, unless_declined}
+use Rattle.planner.specs.History.{Meaning, Stands, Step, event, says_done}
 use Rattle.planner.specs.declared.planner.Planner.{Planner}
-use Rattle.machine.specs.Asked.{Asked, sections, link, foul, finish, call}
+use Rattle.machine.specs.Asked.{Asked, finish, call}
 use Rattle.machine.specs.Progress.{Progress, drawing, planning, unless, moved}
-use Rattle.machine.specs.Phases.{MadeOf, StandsDrawing, StandsPlanning, StandsAt, CallKept, FrameKept}
+use Rattle.machine.specs.Phases.{StandsDrawing, StandsAt, CallKept, FrameKept}
 use Rattle.machine.specs.Lines.{TurnOwes}
 use Rattle.machine.specs.declared.desk.Desk.{Desk}
-use Rattle.machine.specs.declared.phase.Phase.{Phase}
 use Rattle.machine.specs.declared.phase.Phase.TheVariants.{Drawing, Planning}
 
 says_refused : {C : Type 0} (r : Result (Unit {0}) Refusal) → ◌≡◌ {A = Reply C} (says_done r) (unless_declined (refused_by r) accepted)

@@ -1,5 +1,5 @@
 -- What the machine's phases stand for, and what the reply to a frame keeps.
-use Rattle.std.specs.Prelude.{◌≡◌, ℕ, List}
+use Rattle.std.specs.Prelude.{◌≡◌, List}
 use Rattle.track.specs.Model.{Model, drawn, laid, sections_declined, link_declined, foul_declined}
 use Rattle.track.specs.Refusals.{number_of}
 use Rattle.track.specs.Layouts.{sections_of}

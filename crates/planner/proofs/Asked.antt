@@ -1,7 +1,6 @@
 -- The question of a plan call can be asked, and asks what the book says.
-use Rattle.std.proofs.Common.{◌≡◌, ℕ, zero, suc, ◌+◌, ◌<◌, ◌≤◌, Bool, true, false, cond, not, ◌&&◌, ◌||◌, eqb, ltb, ◌⊎◌, List, [], ◌∷◌, length, get_or, Some, None, Option, sym, refl, ap, ◌∙◌, subst, inl, inr, arith}
-use Rattle.std.proofs.lemmas.Bool.{and_parts, cond-false, lt-ltb, ne_eqb}
-use Rattle.track.specs.Refusals.{met}
+use Rattle.std.proofs.Common.{◌≡◌, ℕ, zero, suc, ◌+◌, ◌<◌, ◌≤◌, Bool, true, false, cond, not, ◌&&◌, ◌||◌, eqb, ltb, List, [], ◌∷◌, length, get_or, None, sym, refl, ap, ◌∙◌, subst, arith}
+use Rattle.std.proofs.lemmas.Bool.{and_parts, lt-ltb, ne_eqb}
 use Rattle.track.specs.Layouts.{sections_of}
 use Rattle.track.specs.declared.layout.Layout.{Layout}
 use Rattle.rules.specs.Conflicts.{Conflicts}
@@ -10,12 +9,12 @@ use Rattle.roster.specs.declared.roster.Roster.{Roster}
 use Rattle.roster.specs.declared.train.Train.{Train}
 use Rattle.roster.specs.Trains.{on_layout}
 use Rattle.roster.specs.Model.{held, seen, no_train, rows_of, start_at, goal_at, closed_of}
-use Rattle.sheets.specs.Problem.{Problem, Group, count}
+use Rattle.sheets.specs.Problem.{Group, count}
 use Rattle.sheets.specs.Posing.{marked, all_on, all_rows, question_declined}
 use Rattle.sheets.specs.Inquiry.{Inquiry, inquiry, problem_of}
 use Rattle.sheets.specs.declared.question.Question.{Question}
 use Rattle.sheets.proofs.Alls.{all_from}
-use Rattle.planner.specs.Promise.{setting, problem, asked, all_trains}
+use Rattle.planner.specs.Promise.{setting, asked, all_trains}
 
 -- each train of a list on the layout is on it
 on_at : (n : ℕ) (xs : List Train) (d : Train) (r : ℕ) → on_layout n xs ≡ true → r < length xs

@@ -1,8 +1,8 @@
 -- The book declines calls with no other numbers than those listed.
-use Rattle.std.proofs.Common.{◌≡◌, ℕ, ◌+◌, ◌*◌, Bool, true, false, not, ◌||◌, eqb, ltb, leb, length, Some, None, Option, sym, refl, ap, ◌∙◌, subst, arith}
+use Rattle.std.proofs.Common.{◌≡◌, ℕ, ◌+◌, ◌*◌, Bool, true, false, not, ◌||◌, eqb, ltb, leb, length, Some, None, Option, refl, subst, arith}
 use Rattle.track.specs.Refusals.{met}
 use Rattle.roster.specs.Trains.{no_number, number_of, start_of, goal_of, taken}
-use Rattle.roster.specs.Book.{Call, enter, withdraw, possess, give_up, ask, plan, Book, declined}
+use Rattle.roster.specs.Book.{enter, withdraw, possess, give_up, ask, plan}
 use Rattle.planner.specs.Refusals.{numbers, is_one_of, TheBookHasNoOtherNumbers}
 
 abbrev Listed : Option ℕ → Type 0

@@ -1,5 +1,5 @@
 -- The starts and goals of every book are on the layout, and it has at most eight trains.
-use Rattle.std.proofs.Common.{◌≡◌, ℕ, suc, ◌+◌, ◌<◌, ◌≤◌, Bool, true, false, cond, ◌&&◌, ◌||◌, eqb, ltb, leb, List, [], ◌∷◌, length, Some, None, Option, sym, refl, ap, ◌∙◌, arith}
+use Rattle.std.proofs.Common.{◌≡◌, ℕ, suc, ◌≤◌, Bool, true, false, ◌&&◌, ◌||◌, eqb, ltb, leb, List, [], ◌∷◌, length, Some, None, Option, refl, ap, arith}
 use Rattle.std.proofs.lemmas.Bool.{cond_both, and_from, and_parts, or_parts, leb-false, lt-ltb}
 use Rattle.roster.specs.declared.train.Train.{Train}
 use Rattle.track.specs.Refusals.{met}

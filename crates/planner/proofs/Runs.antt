@@ -1,5 +1,5 @@
 -- One call more: its reply is kept, and the planner that it leaves stands.
-use Rattle.std.proofs.Common.{◌≡◌, ℕ, ◌≤◌, Bool, true, ◌⊎◌, List, [], ◌∷◌, ◌++◌, length, Some, None, Ok, Err, Option, Result, sym, refl, ap, ◌∙◌, subst, inl, inr, append_assoc, append-nil}
+use Rattle.std.proofs.Common.{◌≡◌, ℕ, ◌≤◌, true, ◌⊎◌, List, [], ◌∷◌, ◌++◌, length, Some, None, Ok, Err, Option, Result, sym, refl, ap, ◌∙◌, subst, inl, inr, append_assoc, append-nil}
 use Rattle.track.specs.Layouts.{sections_of}
 use Rattle.track.specs.Refusals.{granted, refused_by}
 use Rattle.track.specs.declared.layout.Layout.{Layout}
@@ -13,15 +13,14 @@ use Rattle.roster.specs.Book.{declined as refusal}
 use Rattle.roster.specs.Model.{seen, held}
 use Rattle.roster.specs.Trains.{on_layout}
 use Rattle.sheets.specs.Inquiry.{Inquiry}
-use Rattle.sheets.specs.Problem.{Group}
 use Rattle.sheets.specs.Plan.{Without}
 use Rattle.sheets.specs.Theorems.{Same}
 use Rattle.sheets.specs.declared.sheet.Sheet.{Sheet}
-use Rattle.groups.specs.Course.{Outcome, beyond, none, found}
+use Rattle.groups.specs.Course.{Outcome, beyond, none}
 use Rattle.groups.proofs.Moved.{whole_moved}
 use Rattle.grouping.specs.Ends.{about}
 use Rattle.planner.specs.declared.planner.Planner.{Planner}
-use Rattle.planner.specs.Promise.{Setting, Reply, accepted, declined, noted, are_closed, planned, setting, problem, asked, all_trains, GroupingEnds, SheetOrNone, PlanAnswered, PlanKept, unless_declined, FromBook, Kept}
+use Rattle.planner.specs.Promise.{Setting, Reply, accepted, declined, noted, are_closed, planned, setting, problem, asked, all_trains, GroupingEnds, SheetOrNone, PlanKept, unless_declined, FromBook, Kept}
 use Rattle.planner.specs.History.{Meaning, setting_of, Stands, Event, Step, Run, calls_of, AllKept, EveryRunKeepsAllReplies, says_done, event, History}
 use Rattle.planner.proofs.Closed.{count_all, lowest_all}
 use Rattle.planner.proofs.Placed.{on_after}

@@ -6,7 +6,7 @@ use Rattle.track.specs.declared.layout.Layout.{Layout}
 use Rattle.track.specs.declared.refusal.Refusal.{Refusal}
 use Rattle.rules.specs.Conflicts.{Conflicts}
 use Rattle.scales.specs.Measure.{Measure}
-use Rattle.roster.specs.Book.{Call, enter, withdraw, possess, give_up, ask, plan, Book, book_of, entry_of}
+use Rattle.roster.specs.Book.{Call, withdraw, possess, give_up, ask, plan, book_of, entry_of}
 use Rattle.roster.specs.Model.{seen}
 use Rattle.sheets.specs.Inquiry.{Inquiry, plan_of}
 use Rattle.sheets.specs.Theorems.{Same}

@@ -2,7 +2,6 @@
 // Prints each call with its reply, and each sheet.
 #![tactic(auto)]
 
-use single_check::check::Check;
 use planner::note::Note;
 use planner::order::{Order, Told};
 use planner::planner::Planner;
@@ -14,6 +13,7 @@ use scales::scale::Scale;
 use scales::steps::Steps;
 use scales::steps_then_points::StepsThenPoints;
 use sheets::sheet::Sheet;
+use single_check::check::Check;
 use std::io;
 use table::table::Table;
 use track::drawing::Drawing;

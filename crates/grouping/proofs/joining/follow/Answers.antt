@@ -1,4 +1,4 @@
-use Rattle.std.proofs.Common.{◌≡◌, length, sym, refl, ap, ◌∙◌}
+use Rattle.std.proofs.Common.{length, refl}
 use Rattle.sheets.specs.Inquiry.{inquiry}
 use Rattle.groups.specs.Parts.{alone}
 use Rattle.groups.specs.Course.{beyond, none}

@@ -1,10 +1,8 @@
-use Rattle.std.proofs.Common.{◌≡◌, ℕ, ◌<◌, ◌≤◌, length, sym, refl, ap, ◌∙◌, arith}
-use Rattle.roster.specs.Model.{rows_of}
+use Rattle.std.proofs.Common.{length, refl, arith}
 use Rattle.roster.proofs.Laws.{rows_most}
 use Rattle.search.specs.declared.answer.Answer.TheVariants.{BeyondReach, NoSheet, Found}
 use Rattle.sheets.specs.Posing.{marked}
-use Rattle.sheets.specs.Inquiry.{inquiry, problem_of, plan_of}
-use Rattle.groups.specs.Parts.{Naming, part, merged, FirstClash}
+use Rattle.sheets.specs.Inquiry.{inquiry}
 use Rattle.groups.specs.Model.{naming}
 use Rattle.grouping.proofs.Rows.{part_rows}
 use Rattle.grouping.specs.Following.{as_long, parts_first, part_beyond, part_none, part_next, parts_end, one_fewer}

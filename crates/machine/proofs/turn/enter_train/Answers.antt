@@ -1,4 +1,3 @@
-use Rattle.std.proofs.Common.{refl}
 use Rattle.roster.specs.Book.Call.{enter}
 use Rattle.planner.specs.History.{meaning, says_done}
 use Rattle.machine.specs.Phases.{reply_of}

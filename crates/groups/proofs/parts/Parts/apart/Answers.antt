@@ -1,4 +1,4 @@
-use Rattle.std.proofs.Common.{◌≡◌, Bool, not, ◌&&◌, eqb, sym, refl, ap, ◌∙◌, arith}
+use Rattle.std.proofs.Common.{not, ◌&&◌, eqb, sym, arith}
 use Rattle.sheets.specs.Posing.{marked}
 use Rattle.groups.proofs.Tables.{name_in}
 use Rattle.groups.proofs.parts.Parts.apart.Goals as goal

@@ -1,4 +1,4 @@
-use Rattle.std.proofs.Common.{◌≡◌, ℕ, ◌+◌, ◌<◌, ◌≤◌, Bool, ◌&&◌, eqb, sym, refl, ap, ◌∙◌, arith}
+use Rattle.std.proofs.Common.{◌≡◌, ℕ, ◌+◌, ◌&&◌, eqb, sym, refl, ap, ◌∙◌, arith}
 use Rattle.sheets.specs.Posing.{marked}
 use Rattle.sheets.proofs.Alls.{count_yes, count_no}
 use Rattle.groups.specs.Parts.{parts}

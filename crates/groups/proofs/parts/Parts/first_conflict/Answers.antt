@@ -1,5 +1,4 @@
-use Rattle.std.proofs.Common.{◌≡◌, ℕ, ◌+◌, ◌<◌, ◌≤◌, Bool, true, false, ◌&&◌, sym, refl, ap, ◌∙◌, arith}
-use Rattle.std.proofs.lemmas.Bool.{and_left, and_right}
+use Rattle.std.proofs.Common.{◌≡◌, false, arith}
 use Rattle.sheets.specs.Inquiry.{problem_of, plan_of}
 use Rattle.sheets.specs.Posing.{marked}
 use Rattle.sheets.proofs.Posed.{sound}

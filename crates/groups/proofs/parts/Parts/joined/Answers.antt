@@ -1,6 +1,6 @@
-use Rattle.std.proofs.Common.{◌≡◌, ◌+◌, ◌<◌, length, sym, refl, ap, ◌∙◌, subst, arith}
+use Rattle.std.proofs.Common.{◌≡◌, ◌<◌, length, refl, arith}
 use Rattle.groups.proofs.Fewer.{each_joining_takes_one_away}
-use Rattle.groups.proofs.Tables.{Renamed, renamed_merges, renamed_none, renamed_more, renamed_same, rows_at, rows_set, length_kept}
+use Rattle.groups.proofs.Tables.{renamed_merges, renamed_none, renamed_more, renamed_same, rows_at, rows_set, length_kept}
 use Rattle.groups.proofs.parts.Parts.joined.Goals as goal
 use Rattle.groups.proofs.parts.Parts.joined.Goals.{then-names-p, else-names-p}
 

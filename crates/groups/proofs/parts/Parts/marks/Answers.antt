@@ -1,4 +1,4 @@
-use Rattle.std.proofs.Common.{◌≡◌, ◌+◌, ◌<◌, length, sym, refl, ap, ◌∙◌, arith}
+use Rattle.std.proofs.Common.{◌≡◌, refl, ap, ◌∙◌, arith}
 use Rattle.sheets.specs.Posing.{marked}
 use Rattle.groups.specs.Parts.{part}
 use Rattle.groups.specs.Model.{naming}

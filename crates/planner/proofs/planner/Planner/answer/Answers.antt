@@ -1,4 +1,4 @@
-use Rattle.std.proofs.Common.{◌≡◌, length, sym, refl, ap}
+use Rattle.std.proofs.Common.{length, sym, refl, ap}
 use Rattle.roster.specs.Book.{enter, withdraw, possess, give_up, ask, plan}
 use Rattle.planner.specs.declared.order.Order.{Order}
 use Rattle.planner.specs.Promise.{are_closed}
