@@ -1,6 +1,6 @@
 -- What is printed is read again.
 use Rattle.std.proofs.Common.{◌≡◌, ℕ, ◌+◌, ◌*◌, ◌/◌, ◌%◌, ◌<◌, true, false, eqb, List, [], ◌∷◌, ◌++◌, length, None, sym, refl, ap, ◌∙◌, ap₂, div-add-mod', arith}
-use Rattle.std.specs.List.{AllByRecursion as All}
+use Rattle.std.specs.List.{AllByRecursion}
 use Rattle.std.proofs.lemmas.List.{append-nil, append_assoc}
 use Rattle.std.proofs.lemmas.Bool.{cond-true, cond-false, eq-eqb, ne_eqb, le-ltb}
 use Rattle.std.proofs.lemmas.Bool.Decides.{nat_tests}
@@ -18,7 +18,7 @@ pair_again : (b : ℕ) → b < 256 → pair_value (digit_of (b / 16)) (digit_of 
 pair_again b h =
     ap₂ (λ (x y : ℕ). x * 16 + y) (digit_value_lem (b / 16) (omega arith)) (digit_value_lem (b % 16) (omega arith)) ∙ div-add-mod' b 16
 
-bytes_again : (bs : List ℕ) → All (λ b. b < 256) bs → bytes_of (chars_of bs) ≡ bs
+bytes_again : (bs : List ℕ) → AllByRecursion (λ b. b < 256) bs → bytes_of (chars_of bs) ≡ bs
 unfolding bytes_of chars_of
 bytes_again [] h = refl
 bytes_again (b ∷ []) h = ap (λ (x : ℕ). x ∷ []) (pair_again b h.0)
@@ -42,7 +42,7 @@ at_end : (i : ℕ) → i % 3 ≡ 2 → fault_from i [] ≡ None
 unfolding fault_from
 at_end i h = cond-true _ _ _ (eq-eqb (i % 3) 2 h)
 
-no_wrong : (bs : List ℕ) (i : ℕ) → 0 < length bs → i % 3 ≡ 0 → All (λ b. b < 256) bs → fault_from i (chars_of bs) ≡ None
+no_wrong : (bs : List ℕ) (i : ℕ) → 0 < length bs → i % 3 ≡ 0 → AllByRecursion (λ b. b < 256) bs → fault_from i (chars_of bs) ≡ None
 unfolding chars_of
 no_wrong [] i n m h = absurd (omega arith)
 no_wrong (b ∷ []) i n m h =
@@ -66,13 +66,13 @@ round_trip bytes n m h =
 no_end : (d : ℕ) → eqb (digit_of d) 10 ≡ false
 no_end d = grind (arith, nat_tests)
 
-no_ends : (bs : List ℕ) → All (λ c. eqb c 10 ≡ false) (chars_of bs)
+no_ends : (bs : List ℕ) → AllByRecursion (λ c. eqb c 10 ≡ false) (chars_of bs)
 unfolding chars_of
 no_ends [] = tt
 no_ends (b ∷ []) = (no_end (b / 16), (no_end (b % 16), tt))
 no_ends (b ∷ (c ∷ bs)) = (no_end (b / 16), (no_end (b % 16), (refl, no_ends (c ∷ bs))))
 
-to_the_end : (cs begun xs : List ℕ) → All (λ c. eqb c 10 ≡ false) cs → lines_from begun (cs ++ (10 ∷ xs)) ≡ (begun ++ cs) ∷ lines_from [] xs
+to_the_end : (cs begun xs : List ℕ) → AllByRecursion (λ c. eqb c 10 ≡ false) cs → lines_from begun (cs ++ (10 ∷ xs)) ≡ (begun ++ cs) ∷ lines_from [] xs
 unfolding lines_from
 to_the_end [] begun xs h = ap (λ (z : List ℕ). z ∷ lines_from [] xs) (sym (append-nil begun))
 to_the_end (c ∷ cs) begun xs h =

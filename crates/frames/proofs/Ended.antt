@@ -1,6 +1,6 @@
 -- A line, byte by byte.
 use Rattle.std.proofs.Common.{◌≡◌, ℕ, zero, suc, ◌+◌, ◌*◌, ◌/◌, ◌%◌, ◌<◌, List, [], ◌∷◌, ◌++◌, length, get_or, take, sym, refl, ap, ◌∙◌, arith}
-use Rattle.std.specs.List.{AllByRecursion as All}
+use Rattle.std.specs.List.{AllByRecursion}
 use Rattle.frames.specs.Text.{digit_of, chars_of, line_of}
 
 pub length_line_of : (bs : List ℕ) → 0 < length bs → length (line_of bs) ≡ 3 * length bs
@@ -30,6 +30,6 @@ line_more (b ∷ (c ∷ bs)) (suc i) s h p q =
     ∙ ap (λ (zs : List ℕ). digit_of (b / 16) ∷ (digit_of (b % 16) ∷ (32 ∷ zs))) ih
     ∙ sym (ap (λ (n : ℕ). take n xs ++ trio (get_or (c ∷ bs) i 0) s) f)
 
-pub all_below : (xs : List ℕ) → ((k : ℕ) → get_or xs k 0 < 256) → All (λ b. b < 256) xs
+pub all_below : (xs : List ℕ) → ((k : ℕ) → get_or xs k 0 < 256) → AllByRecursion (λ b. b < 256) xs
 all_below [] h = tt
 all_below (x ∷ xs) h = (h 0, all_below xs (λ k. h (suc k)))

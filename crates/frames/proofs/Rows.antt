@@ -1,6 +1,6 @@
 -- The lines of the trains, one more, and how long they are.
 use Rattle.std.proofs.Common.{◌≡◌, ℕ, zero, suc, ◌+◌, ◌*◌, ◌<◌, ◌≤◌, min, List, [], ◌∷◌, ◌++◌, map, length, get_or, Some, None, sym, refl, ap, ◌∙◌, subst, mul-le-mul_right, add-mul, arith}
-use Rattle.std.specs.List.{range_with_len, slice_get, flat_map, AllByRecursion as All}
+use Rattle.std.specs.List.{range_with_len, slice_get, flat_map, AllByRecursion}
 use Rattle.std.proofs.lemmas.List.FromFn.{length-range_with_len, length-map-range_with_len, map-range_with_len_more}
 use Rattle.std.proofs.ByRecursion.{All-push}
 use Rattle.std.proofs.lemmas.List.{flat_map_more, length-append}
@@ -37,11 +37,11 @@ trains_more o s steps row =
     ap text (map-range_with_len_more f 0 row row (omega arith)) ∙ text_more (map f (range_with_len 0 row)) (f row)
 
 -- one more line that can be read again
-pub trains_back : (o : Roster) (s : Sheet) (steps row : ℕ) → All ReadsBack (train_lines o s steps row) → ReadsBack (train_bytes (number_at o row) (plan_of s row) steps) → All ReadsBack (train_lines o s steps (row + 1))
+pub trains_back : (o : Roster) (s : Sheet) (steps row : ℕ) → AllByRecursion ReadsBack (train_lines o s steps row) → ReadsBack (train_bytes (number_at o row) (plan_of s row) steps) → AllByRecursion ReadsBack (train_lines o s steps (row + 1))
 unfolding train_lines
 trains_back o s steps row h k =
     let f = λ (k : ℕ). train_bytes (number_at o k) (plan_of s k) steps in
-    subst (λ (ls : List (List ℕ)). All ReadsBack ls) (sym (map-range_with_len_more f 0 row row (omega arith))) (All-push ReadsBack (map f (range_with_len 0 row)) (f row) h k)
+    subst (λ (ls : List (List ℕ)). AllByRecursion ReadsBack ls) (sym (map-range_with_len_more f 0 row row (omega arith))) (All-push ReadsBack (map f (range_with_len 0 row)) (f row) h k)
 
 pub length_train : (number : ℕ) (stands : ℕ → ℕ) (steps : ℕ) → length (train_bytes number stands steps) ≡ 4 + steps
 length_train number stands steps = omega (arith, length-map-range_with_len stands 0 (steps + 1))
@@ -91,6 +91,6 @@ module _ (o : Roster) (s : Sheet) (steps : ℕ) (cost : List ℕ) (groups last c
   unfolding trains
   plan_written old = written_behind old (count * (3 * (4 + last))) trains (line_of (total_bytes cost groups)) long ∙ ap (written old 0) parted
 
-  pub plan_back : All ReadsBack (train_lines o s last (rows_of o)) → ReadsBack (total_bytes cost groups) → All ReadsBack (plan_lines o s steps cost groups)
+  pub plan_back : AllByRecursion ReadsBack (train_lines o s last (rows_of o)) → ReadsBack (total_bytes cost groups) → AllByRecursion ReadsBack (plan_lines o s steps cost groups)
   plan_back h k =
-      All-push ReadsBack (train_lines o s (min steps 16) (rows_of o)) (total_bytes cost groups) (subst (λ (n : ℕ). All ReadsBack (train_lines o s n (rows_of o))) capped h) k
+      All-push ReadsBack (train_lines o s (min steps 16) (rows_of o)) (total_bytes cost groups) (subst (λ (n : ℕ). AllByRecursion ReadsBack (train_lines o s n (rows_of o))) capped h) k

@@ -1,6 +1,6 @@
 -- Bytes as text: lines formed as those that are read, each ended by 0A; and a text in a writing place.
 use Rattle.std.specs.Prelude.{◌≡◌, ℕ, ◌+◌, ◌/◌, ◌%◌, ◌<◌, ◌≤◌, cond, List, [], ◌∷◌, ◌++◌, length, take, drop, None, Ok, Err, Result, nat_lt}
-use Rattle.std.specs.List.{flat_map, AllByRecursion as All}
+use Rattle.std.specs.List.{flat_map, AllByRecursion}
 use Rattle.track.specs.declared.refusal.Refusal.{Refusal}
 use Rattle.track.specs.declared.refusal.Refusal.TheVariants.{WritingPlaceTooShort}
 use Rattle.frames.specs.Lines.{fault_of, bytes_of}
@@ -40,9 +40,9 @@ ReadsBack bytes = (fault_of (chars_of bytes) ≡ None) × (bytes_of (chars_of by
 
 -- what is printed can be read again: 1 to 21 bytes
 abbrev pub RoundTrip : Type 0
-RoundTrip = (bytes : List ℕ) → 0 < length bytes → length bytes ≤ 21 → All (λ b. b < 256) bytes → ReadsBack bytes
+RoundTrip = (bytes : List ℕ) → 0 < length bytes → length bytes ≤ 21 → AllByRecursion (λ b. b < 256) bytes → ReadsBack bytes
 
 -- where the lines were printed, each of them can be read again
 abbrev pub EachReadsBack : Result ℕ Refusal → List (List ℕ) → Type 0
-EachReadsBack (Ok n) lines = All ReadsBack lines
+EachReadsBack (Ok n) lines = AllByRecursion ReadsBack lines
 EachReadsBack (Err e) lines = Unit {0}

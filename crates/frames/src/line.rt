@@ -1,5 +1,5 @@
 ghost use Rattle.std.specs.Prelude.{◌≡◌, ◌+◌, ◌*◌, ◌/◌, ◌%◌, ◌<◌, ◌≤◌, [], ◌∷◌, length};
-ghost use Rattle.std.specs.List.{AllByRecursion as All};
+ghost use Rattle.std.specs.List.{AllByRecursion};
 ghost use Rattle.frames.specs.Text.{digit_of, line_of, written};
 
 fn digit_of(value: u8) -> u8
@@ -24,7 +24,7 @@ pub fn write_line(bytes: &[u8], out: &mut [u8], at: usize)
     requires bytes_in_bounds { at + 3 * length bytes.now ≤ length out.old }
     requires bytes_nonzero { 0 < length bytes.now }
     ensures the_line_is_written { out.new ≡ written out.old at (line_of bytes.now) }
-    ensures all_are_bytes { All (λ b. b < 256) bytes.now }
+    ensures all_are_bytes { AllByRecursion (λ b. b < 256) bytes.now }
 {
     for i in 0..bytes.len() {
         let behind = if i + 1 == bytes.len() { 10 } else { 32 };

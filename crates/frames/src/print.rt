@@ -1,5 +1,5 @@
 ghost use Rattle.std.specs.Prelude.{◌≡◌, ◌+◌, ◌*◌, ◌<◌, ◌≤◌, min, length, take, slice_index};
-ghost use Rattle.std.specs.List.{AllByRecursion as All};
+ghost use Rattle.std.specs.List.{AllByRecursion};
 ghost use Rattle.roster.specs.Model.{rows_of};
 ghost use Rattle.frames.specs.Text.{text, written, printing, printed, ReadsBack, EachReadsBack, RoundTrip};
 ghost use Rattle.frames.specs.Cuts.{TextIntoItsLines};
@@ -62,7 +62,7 @@ fn write_trains(roster: &Roster, sheet: &Sheet, steps: usize, out: &mut [u8])
     requires steps_bound { steps ≤ 16 }
     requires steps_in_bounds { rows_of roster.now * (3 * (4 + steps)) ≤ length out.old }
     ensures their_lines_are_written { out.new ≡ written out.old 0 (text (train_lines roster.now sheet.now steps (rows_of roster.now))) }
-    ensures each_can_be_read_again { All ReadsBack (train_lines roster.now sheet.now steps (rows_of roster.now)) }
+    ensures each_can_be_read_again { AllByRecursion ReadsBack (train_lines roster.now sheet.now steps (rows_of roster.now)) }
 {
     for row in 0..roster.count() {
         let bytes = train_bytes(number_of(roster, row), sheet.rows[row], steps);

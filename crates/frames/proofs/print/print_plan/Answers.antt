@@ -1,5 +1,5 @@
 use Rattle.std.proofs.Common.{◌≡◌, ℕ, ◌+◌, ◌-◌, ◌*◌, ◌<◌, List, length, take, ap, ◌∙◌, subst, arith}
-use Rattle.std.specs.List.{AllByRecursion as All}
+use Rattle.std.specs.List.{AllByRecursion}
 use Rattle.frames.specs.Text.{line_of, text, written}
 use Rattle.frames.specs.Replies.{total_bytes, plan_lines}
 use Rattle.frames.proofs.Rows.{length_total, length_plan, plan_written, plan_back}
@@ -53,7 +53,7 @@ returns g c =
     ∙ c.total_bytes-bytes.ensures.the_cost_and_the_groups
     ∙ ap (λ (z : List ℕ). total_bytes z c.args.groups) c.write_bytes-width.ensures.the_bytes_of_the_cost in
     let many = length_total o s c.args.steps cost c.args.groups last count width capped rows wide in
-    let small : All (λ b. b < 256) total = subst (λ (bs : List ℕ). All (λ b. b < 256) bs) bytes c.write_line.ensures.all_are_bytes in
+    let small : AllByRecursion (λ b. b < 256) total = subst (λ (bs : List ℕ). AllByRecursion (λ b. b < 256) bs) bytes c.write_line.ensures.all_are_bytes in
     record {
       its_length_or_30_if_it_does_not_fit = fits_told old xs n long c.if-out-length.false;
       just_the_text_or_nothing_is_written = c.write_line.ensures.the_line_is_written

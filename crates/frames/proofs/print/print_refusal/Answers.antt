@@ -1,5 +1,5 @@
 use Rattle.std.proofs.Common.{◌≡◌, ℕ, ◌<◌, [], ◌∷◌, length, sym, ap, ◌∙◌, subst, arith}
-use Rattle.std.specs.List.{AllByRecursion as All}
+use Rattle.std.specs.List.{AllByRecursion}
 use Rattle.std.proofs.lemmas.List.{append-nil}
 use Rattle.track.specs.Refusals.{number_of}
 use Rattle.track.specs.declared.refusal.Refusal.{Refusal}
@@ -27,7 +27,7 @@ pub returns : goal.returns
 returns c =
     let old = c.args.out.now in
     let e = c.args.refusal.now in
-    let small : All (λ b. b < 256) (31 ∷ (number_of e ∷ [])) = subst (λ (n : ℕ). All (λ b. b < 256) (31 ∷ (n ∷ []))) c.number.ensures.the_number_of_the_reason c.write_line.ensures.all_are_bytes in
+    let small : AllByRecursion (λ b. b < 256) (31 ∷ (number_of e ∷ [])) = subst (λ (n : ℕ). AllByRecursion (λ b. b < 256) (31 ∷ (n ∷ []))) c.number.ensures.the_number_of_the_reason c.write_line.ensures.all_are_bytes in
     record {
       its_length_or_30_if_it_does_not_fit = fits_told old (text (refusal_lines e)) 6 (six e) (omega arith);
       just_the_text_or_nothing_is_written = c.write_line.ensures.the_line_is_written

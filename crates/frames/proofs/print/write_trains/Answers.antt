@@ -1,5 +1,5 @@
 use Rattle.std.proofs.Common.{◌≡◌, ℕ, ◌+◌, ◌-◌, ◌*◌, ◌<◌, ◌≤◌, List, length, take, sym, ap, ◌∙◌, subst, arith}
-use Rattle.std.specs.List.{AllByRecursion as All}
+use Rattle.std.specs.List.{AllByRecursion}
 use Rattle.roster.specs.Model.{rows_of}
 use Rattle.sheets.specs.Inquiry.{plan_of}
 use Rattle.frames.specs.Text.{line_of, text, written, ReadsBack}
@@ -13,7 +13,7 @@ pub loop-row-init : goal.loop-row-init
 loop-row-init c =
     let old = c.args.out.now in
     let none = trains_none c.args.roster.now c.args.sheet.now c.args.steps in
-    (written_none old 0 ∙ ap (λ (ls : List (List ℕ)). written old 0 (text ls)) (sym none), subst (λ (ls : List (List ℕ)). All ReadsBack ls) (sym none) tt)
+    (written_none old 0 ∙ ap (λ (ls : List (List ℕ)). written old 0 (text ls)) (sym none), subst (λ (ls : List (List ℕ)). AllByRecursion ReadsBack ls) (sym none) tt)
 
 pub loop-row-preserved : goal.loop-row-preserved
 loop-row-preserved c =
@@ -29,7 +29,7 @@ loop-row-preserved c =
     let front = text (train_lines o s steps row) in
     let new = train_bytes (number_at o row) (plan_of s row) steps in
     let n = length_train (number_at o row) (plan_of s row) steps in
-    let small : All (λ b. b < 256) new = subst (λ (bs : List ℕ). All (λ b. b < 256) bs) bytes c.write_line.ensures.all_are_bytes in (
+    let small : AllByRecursion (λ b. b < 256) new = subst (λ (bs : List ℕ). AllByRecursion (λ b. b < 256) bs) bytes c.write_line.ensures.all_are_bytes in (
       c.write_line.ensures.the_line_is_written
           ∙ ap (λ (bs : List ℕ). written c.loop-row.out at (line_of bs)) bytes
           ∙ ap (λ (z : List ℕ). written z at (line_of new)) c.loop-row.invariant.0
@@ -45,7 +45,7 @@ returns c =
     let s = c.args.sheet.now in
     record {
       their_lines_are_written = c.loop-row.invariant.0 ∙ ap (λ (k : ℕ). written c.args.out.now 0 (text (train_lines o s c.args.steps k))) e;
-      each_can_be_read_again = subst (λ (k : ℕ). All ReadsBack (train_lines o s c.args.steps k)) e c.loop-row.invariant.1;
+      each_can_be_read_again = subst (λ (k : ℕ). AllByRecursion ReadsBack (train_lines o s c.args.steps k)) e c.loop-row.invariant.1;
     }
 
 pub write_line-requires : goal.write_line-requires
