@@ -20,7 +20,7 @@ fn write_pair(byte: u8, behind: u8, out: &mut [u8], at: usize)
 }
 
 // Writes a line from the place `at` on.
-pub fn write_line(bytes: &[u8], out: &mut [u8], at: usize)
+pub(crate) fn write_line(bytes: &[u8], out: &mut [u8], at: usize)
     requires bytes_in_bounds { at + 3 * length bytes.now ≤ length out.old }
     requires bytes_nonzero { 0 < length bytes.now }
     ensures the_line_is_written { out.new ≡ written out.old at (line_of bytes.now) }
