@@ -9,6 +9,7 @@ use Rattle.rules.specs.Conflicts.{Conflicts}
 use Rattle.scales.specs.Measure.{Measure}
 use Rattle.words.specs.Words.{rest, best}
 use Rattle.words.specs.Joint.{Task, Joint, process}
+use Rattle.words.specs.declared.board.Board.{Board}
 use Rattle.words.specs.declared.found.Found.{Found}
 
 -- whether a train in a may stand there or run to b, which is open
@@ -22,6 +23,10 @@ over l a b = cond (a == b) 0 (unwrap_or (look l a b) 0)
 -- the task of so many trains with these goals
 abbrev pub task_of : Conflicts → Layout → Roster → (trains : ℕ) → (goal : List ℕ) → Task
 task_of conflicts l o k goal = record { sections = sections_of l; trains = k; opens = open_to l o; points = over l; conflicts = conflicts; goal = take k goal }
+
+-- the task that a board stands for, under what its rule means
+abbrev pub task : {S R : Type 0} → (R → Layout → Conflicts) → Board S R → Task
+task conflicts b = task_of (conflicts b.rule.now b.layout.now) b.layout.now b.roster.now b.trains b.goal
 
 abbrev pub cost_of : {C : Type 0} → Option (Found C) → Option C
 cost_of None = None
