@@ -4,6 +4,7 @@ ghost use Rattle.rules.specs.Conflicts.{clear_section};
 ghost use Rattle.track.proofs.Laws.{fouled_swapped};
 ghost use Rattle.rules.specs.Lawful.{clear_section_laws};
 
+use crate::moves::Move;
 use crate::rule::Rule;
 use track::layout::Layout;
 
@@ -16,7 +17,10 @@ impl Rule for ClearSection {
 
     ghost lawful = { λ s l. clear_section_laws (fouled l) (fouled_swapped l) };
 
-    fn conflict(&self, layout: &Layout, a: u8, b: u8, c: u8, d: u8) -> bool {
-        (b == d) | (b == c) | (a == d) | ((a != b) & (c != d) & layout.fouls(a, b, c, d))
+    fn conflict(&self, layout: &Layout, one: Move, other: Move) -> bool {
+        one.to == other.to
+            || one.to == other.from
+            || one.from == other.to
+            || one.crosses(other, layout)
     }
 }

@@ -4,6 +4,7 @@ ghost use Rattle.rules.specs.Conflicts.{following};
 ghost use Rattle.track.proofs.Laws.{fouled_swapped};
 ghost use Rattle.rules.specs.Lawful.{following_laws};
 
+use crate::moves::Move;
 use crate::rule::Rule;
 use track::layout::Layout;
 
@@ -16,7 +17,9 @@ impl Rule for Following {
 
     ghost lawful = { λ s l. following_laws (fouled l) (fouled_swapped l) };
 
-    fn conflict(&self, layout: &Layout, a: u8, b: u8, c: u8, d: u8) -> bool {
-        (b == d) | ((a == d) & (b == c)) | ((a != b) & (c != d) & layout.fouls(a, b, c, d))
+    fn conflict(&self, layout: &Layout, one: Move, other: Move) -> bool {
+        one.to == other.to
+            || (one.from == other.to && one.to == other.from)
+            || one.crosses(other, layout)
     }
 }

@@ -3,4 +3,5 @@
 
 pub mod clear_section;
 pub mod following;
+pub mod moves;
 pub mod rule;
