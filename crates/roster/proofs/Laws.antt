@@ -1,9 +1,11 @@
 -- What every roster keeps, said of its rows.
-use Rattle.std.proofs.Common.{◌≡◌, ℕ, zero, suc, ◌<◌, ◌≤◌, true, false, not, eqb, List, [], ◌∷◌, length, get_or, sym, arith}
+use Rattle.std.proofs.Common.{◌≡◌, ℕ, zero, suc, ◌<◌, ◌≤◌, true, false, not, eqb, List, [], ◌∷◌, length, get_or, sym, refl, inl, inr, arith}
 use Rattle.std.proofs.lemmas.List.{length-take}
-use Rattle.std.proofs.lemmas.Bool.{and_parts, or_parts, not-true, eqb-false}
+use Rattle.std.specs.List.{slice_get}
+use Rattle.std.proofs.lemmas.Option.{slice_get-get_or, slice_get_past}
+use Rattle.std.proofs.lemmas.Bool.{cases_lt, and_parts, or_parts, not-true, eqb-false}
 use Rattle.roster.specs.Trains.{has, taken, apart_by, runs, all_open, start_of, goal_of}
-use Rattle.roster.specs.Model.{held, no_train, rows_of, start_at, goal_at, closed_of, RosterLaws}
+use Rattle.roster.specs.Model.{held, no_train, rows_of, start_at, goal_at, closed_of, RowIs, RosterLaws}
 use Rattle.roster.specs.declared.train.Train.{Train}
 use Rattle.roster.specs.declared.roster.Roster.{Roster}
 
@@ -45,6 +47,18 @@ starts_differ o r q i l e = apart_at start_of (held o) r q no_train o.starts i l
 pub goals_differ : (o : Roster) (r q : ℕ) → r < q → q < rows_of o → goal_at o r ≡ goal_at o q → ⊥
 unfolding rows_of goal_at
 goals_differ o r q i l e = apart_at goal_of (held o) r q no_train o.goals i l e
+
+row_here : (o : Roster) (row : ℕ) → row < length (held o) → RowIs o row (slice_get (held o) row)
+unfolding rows_of start_at goal_at
+row_here o row inside = rw (slice_get-get_or (held o) row no_train inside) (record { inside = inside; start = refl; goal = refl })
+
+row_past : (o : Roster) (row : ℕ) → length (held o) ≤ row → RowIs o row (slice_get (held o) row)
+unfolding rows_of
+row_past o row past = rw (slice_get_past (held o) row past) past
+
+-- what the list of trains has at a row is the train of the row
+pub row_is : (o : Roster) (row : ℕ) → RowIs o row (slice_get (held o) row)
+row_is o row = elim (cases_lt row (length (held o))) [ inl inside ↦ row_here o row inside | inr past ↦ row_past o row past ]
 
 pub laws : (o : Roster) → RosterLaws o
 laws o =

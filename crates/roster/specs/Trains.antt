@@ -1,5 +1,6 @@
 -- Trains in the order of their numbers.
-use Rattle.std.specs.Prelude.{ℕ, ◌+◌, ◌/◌, ◌%◌, ◌^◌, Bool, true, false, cond, not, ◌&&◌, ◌||◌, List, [], ◌∷◌, Some, None, Option, ◌==◌, nat_lt}
+use Rattle.std.specs.Prelude.{ℕ, ◌/◌, ◌%◌, ◌^◌, Bool, true, cond, not, ◌&&◌, ◌||◌, List, [], ◌∷◌, Option, ◌==◌, nat_lt}
+use Rattle.std.specs.List.{list_any, position_from}
 use Rattle.roster.specs.declared.train.Train.{Train}
 
 abbrev pub number_of : Train → ℕ
@@ -36,8 +37,7 @@ all_numbered (x ∷ xs) = not (no_number x.number) && all_numbered xs
 
 -- whether a train has v for its f
 abbrev pub taken : (Train → ℕ) → ℕ → List Train → Bool
-taken f v [] = false
-taken f v (x ∷ xs) = f x == v || taken f v xs
+taken f v xs = list_any (λ x. f x == v) xs
 
 -- whether no two trains have the same f
 abbrev pub apart_by : (Train → ℕ) → List Train → Bool
@@ -69,5 +69,4 @@ without v (x ∷ xs) = cond (x.number == v) xs (x ∷ without v xs)
 
 -- the place of the first with the number v, where xs stands from the place i on
 abbrev pub place_from : ℕ → ℕ → List Train → Option ℕ
-place_from i v [] = None
-place_from i v (x ∷ xs) = cond (x.number == v) (Some i) (place_from (i + 1) v xs)
+place_from i v xs = position_from (λ x. x.number == v) i xs

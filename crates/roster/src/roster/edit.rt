@@ -36,22 +36,21 @@ impl Roster {
     {
         let mut roster = Roster::new();
         for train in trains {
-            roster.enter(layout, train.number, train.start, train.goal)?;
+            roster.enter(layout, *train)?;
         }
         Ok(roster)
     }
 
     // Enters a train, at its place in the order of numbers.
-    pub fn enter(
-        &mut self,
-        layout: &Layout,
-        number: u16,
-        start: u8,
-        goal: u8,
-    ) -> Result<(), Refusal>
-        ensures the_first_condition_met_declines { refused_by result ≡ declined (sections_of layout.now) (seen self.old) (enter number start goal) }
-        ensures a_refusal_changes_nothing { seen self.new ≡ granted result (changed (seen self.old) (enter number start goal)) (seen self.old) }
+    pub fn enter(&mut self, layout: &Layout, train: Train) -> Result<(), Refusal>
+        ensures the_first_condition_met_declines { refused_by result ≡ declined (sections_of layout.now) (seen self.old) (enter train.number train.start train.goal) }
+        ensures a_refusal_changes_nothing { seen self.new ≡ granted result (changed (seen self.old) (enter train.number train.start train.goal)) (seen self.old) }
     {
+        let Train {
+            number,
+            start,
+            goal,
+        } = train;
         let sections = layout.sections();
         if start >= sections || goal >= sections {
             return Err(Refusal::NoSuchSection);
@@ -74,17 +73,8 @@ impl Roster {
         if self.count() >= 8 {
             return Err(Refusal::RosterFull);
         }
-        let p = self.place(number);
-        insert_at(
-            &mut self.trains,
-            self.count,
-            p,
-            Train {
-                number,
-                start,
-                goal,
-            },
-        );
+        let place = self.place(number);
+        insert_at(&mut self.trains, self.count, place, train);
         self.count += 1;
         Ok(())
     }
@@ -97,14 +87,12 @@ impl Roster {
         if out_of_range(number) {
             return Err(Refusal::TrainNumberOutOfRange);
         }
-        match self.find(number) {
-            None => Err(Refusal::NotOnRoster),
-            Some(p) => {
-                remove_at(&mut self.trains, self.count, p);
-                self.count -= 1;
-                Ok(())
-            }
-        }
+        let Some(row) = self.find(number) else {
+            return Err(Refusal::NotOnRoster);
+        };
+        remove_at(&mut self.trains, self.count, row);
+        self.count -= 1;
+        Ok(())
     }
 
     // Closes a section, on which no train starts or ends.

@@ -1,4 +1,4 @@
-ghost use Rattle.std.specs.Prelude.{◌≡◌, ◌≤◌, length, nat_le};
+ghost use Rattle.std.specs.Prelude.{◌≡◌, ℕ, ◌≤◌, length, nat_le};
 ghost use Rattle.std.specs.List.{prefix_len, slice_get};
 ghost use Rattle.roster.specs.Trains.{taken, number_of, start_of, goal_of, place_from};
 ghost use Rattle.roster.specs.Book.{how_many, lowest};
@@ -9,6 +9,16 @@ use crate::roster::table::has;
 use crate::train::Train;
 
 impl Roster {
+    // The trains in rising number, one for each row.
+    pub fn trains(&self) -> &[Train]
+        ensures the_trains_of_the_book { result.now ≡ (seen self.now).trains }
+        ensures as_many_as_there_are_rows { length result.now ≡ rows_of self.now }
+        ensures at_most_eight { length result.now ≤ 8 }
+        ensures each_stands_on_its_row { (row : ℕ) → RowIs self.now row (slice_get result.now row) }
+    {
+        &self.trains[..self.count]
+    }
+
     // How many trains there are, and with that how many rows.
     pub fn count(&self) -> usize
         ensures as_many_as_the_book_has { result ≡ length (seen self.now).trains }
@@ -16,8 +26,7 @@ impl Roster {
         ensures at_most_eight { result ≤ 8 }
         ensures the_count_that_is_kept { result ≡ self.now.count }
     {
-        let part = &self.trains[0..self.count];
-        part.len()
+        self.trains().len()
     }
 
     // The train of a row, if there is such a row.
@@ -25,11 +34,7 @@ impl Roster {
         ensures the_train_of_the_row { result ≡ slice_get (held self.now) row }
         ensures a_row_has_its_start_and_goal { RowIs self.now row result }
     {
-        if row < self.count {
-            Some(self.trains[row])
-        } else {
-            None
-        }
+        self.trains().get(row).copied()
     }
 
     // Whether a section is closed; a number of 32 or more is none.
@@ -56,61 +61,41 @@ impl Roster {
         }
     }
 
-    pub(super) fn number_taken(&self, v: u16) -> bool
-        ensures whether_a_train_has_the_number { result ≡ taken number_of v (held self.now) }
+    pub(super) fn number_taken(&self, number: u16) -> bool
+        ensures whether_a_train_has_the_number { result ≡ taken number_of number (held self.now) }
     {
-        for i in 0..self.count {
-            if self.trains[i].number == v {
-                return true;
-            }
-        }
-        false
+        self.trains().iter().any(|train| train.number == number)
     }
 
-    pub(super) fn start_taken(&self, v: u8) -> bool
-        ensures whether_a_train_has_the_start { result ≡ taken start_of v (held self.now) }
+    pub(super) fn start_taken(&self, section: u8) -> bool
+        ensures whether_a_train_has_the_start { result ≡ taken start_of section (held self.now) }
     {
-        for i in 0..self.count {
-            if self.trains[i].start == v {
-                return true;
-            }
-        }
-        false
+        self.trains().iter().any(|train| train.start == section)
     }
 
-    pub(super) fn goal_taken(&self, v: u8) -> bool
-        ensures whether_a_train_has_the_goal { result ≡ taken goal_of v (held self.now) }
+    pub(super) fn goal_taken(&self, section: u8) -> bool
+        ensures whether_a_train_has_the_goal { result ≡ taken goal_of section (held self.now) }
     {
-        for i in 0..self.count {
-            if self.trains[i].goal == v {
-                return true;
-            }
-        }
-        false
+        self.trains().iter().any(|train| train.goal == section)
     }
 
-    // How many trains have a number below `v` or equal to it, before the first with a higher one.
-    pub(super) fn place(&self, v: u16) -> usize
-        ensures as_many_as_come_before { result ≡ prefix_len (λ x. nat_le x.number v) (held self.now) }
+    // How many trains have a number below `number` or equal to it, before the first with a higher one.
+    pub(super) fn place(&self, number: u16) -> usize
+        ensures as_many_as_come_before { result ≡ prefix_len (λ x. nat_le x.number number) (held self.now) }
         ensures at_most_the_count { result ≤ self.now.count }
     {
-        for i in 0..self.count {
-            if v < self.trains[i].number {
-                return i;
-            }
-        }
-        self.count
+        self.trains()
+            .iter()
+            .take_while(|train| train.number <= number)
+            .count()
     }
 
-    // The row of the train with the number `v`.
-    pub(super) fn find(&self, v: u16) -> Option<usize>
-        ensures the_first_row_with_the_number { result ≡ place_from 0 v (held self.now) }
+    // The row of the train with the number.
+    pub(super) fn find(&self, number: u16) -> Option<usize>
+        ensures the_first_row_with_the_number { result ≡ place_from 0 number (held self.now) }
     {
-        for i in 0..self.count {
-            if self.trains[i].number == v {
-                return Some(i);
-            }
-        }
-        None
+        self.trains()
+            .iter()
+            .position(|train| train.number == number)
     }
 }

@@ -6,7 +6,8 @@ use crate::train::Train;
 
 // Puts `t` at `p` into the first `n` places, and moves those after it up by one.
 pub(super) fn insert_at(table: &mut [Train; 8], n: usize, p: usize, t: Train)
-    requires { (n < 8) × (p ≤ n) }
+    requires room { n < 8 }
+    requires within { p ≤ n }
     ensures the_train_stands_at_its_place { take (n + 1) table.new ≡ insert (take n table.old) p t }
 {
     table[n] = t;
@@ -15,7 +16,8 @@ pub(super) fn insert_at(table: &mut [Train; 8], n: usize, p: usize, t: Train)
 
 // Takes the place `p` out of the first `n`, and moves those after it down by one.
 pub(super) fn remove_at(table: &mut [Train; 8], n: usize, p: usize)
-    requires { (n ≤ 8) × (p < n) }
+    requires held { n ≤ 8 }
+    requires within { p < n }
     ensures the_place_is_gone { take (n - 1) table.new ≡ remove (take n table.old) p }
 {
     table[p..n].rotate_left(1);

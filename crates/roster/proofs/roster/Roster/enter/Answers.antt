@@ -12,8 +12,8 @@ use Rattle.roster.proofs.roster.Roster.enter.Goals as goal
 pub invariant_of-self : goal.invariant_of-self
 invariant_of-self c =
     let r = c.args.self.now in
-    let t : Train = record { number = c.args.number; start = c.args.start; goal = c.args.goal } in
-    let e : take (r.count + 1) c.insert_at.new.table ≡ entered t (held r) = c.insert_at.ensures.the_train_stands_at_its_place ∙ ap (λ (p : ℕ). insert (held r) p t) c.place-p.ensures.as_many_as_come_before ∙ inserted_entered t (held r) in
+    let t = c.args.train in
+    let e : take (r.count + 1) c.insert_at.new.table ≡ entered t (held r) = c.insert_at.ensures.the_train_stands_at_its_place ∙ ap (λ (p : ℕ). insert (held r) p t) c.place-place.ensures.as_many_as_come_before ∙ inserted_entered t (held r) in
     let a = rising_entered t (held r) r.ordered (sym c.if-number_taken.ensures.whether_a_train_has_the_number) in
     let m = numbered_entered t (held r) r.numbered (sym c.if-out_of_range.ensures.whether_no_train_has_such_a_number) in
     let b = apart_entered start_of t (held r) r.starts (sym c.if-start_taken.ensures.whether_a_train_has_the_start) in
@@ -33,8 +33,8 @@ pub returns : goal.returns
 returns c =
     let r = c.args.self.now in
     let n = sections_of c.args.layout.now in
-    let t : Train = record { number = c.args.number; start = c.args.start; goal = c.args.goal } in
-    let e : take (r.count + 1) c.insert_at.new.table ≡ entered t (held r) = c.insert_at.ensures.the_train_stands_at_its_place ∙ ap (λ (p : ℕ). insert (held r) p t) c.place-p.ensures.as_many_as_come_before ∙ inserted_entered t (held r) in
+    let t = c.args.train in
+    let e : take (r.count + 1) c.insert_at.new.table ≡ entered t (held r) = c.insert_at.ensures.the_train_stands_at_its_place ∙ ap (λ (p : ℕ). insert (held r) p t) c.place-place.ensures.as_many_as_come_before ∙ inserted_entered t (held r) in
     let v = c.sections-sections.ensures.how_many_sections_there_are in
     let e1 : (leb n t.start || leb n t.goal) ≡ false = grind (arith, nat_tests) in
     let e0 : no_number t.number ≡ false = sym c.if-out_of_range.ensures.whether_no_train_has_such_a_number in

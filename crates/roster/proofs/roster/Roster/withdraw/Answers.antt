@@ -1,4 +1,4 @@
-use Rattle.std.proofs.Common.{◌≡◌, ℕ, ◌-◌, false, List, take, sym, refl, ap, ◌∙◌, arith}
+use Rattle.std.proofs.Common.{◌≡◌, ℕ, ◌-◌, false, List, take, Some, None, Option, sym, refl, ap, ◌∙◌, arith}
 use Rattle.std.specs.List.{remove}
 use Rattle.std.proofs.lemmas.List.{length-take}
 use Rattle.roster.specs.Trains.{rising, no_number, all_numbered, apart_by, all_open, without, start_of, goal_of, has}
@@ -6,18 +6,23 @@ use Rattle.roster.specs.Model.{held}
 use Rattle.roster.proofs.Leaving.{gone, absent, rising_without, numbered_without, apart_without, open_without}
 use Rattle.roster.proofs.roster.Roster.withdraw.Goals as goal
 
+-- what is not some row is none
+none : (o : Option ℕ) → ((x : ℕ) → o ≡ Some x → ⊥) → o ≡ None
+none None h = refl
+none (Some x) h = absurd (h x refl)
+
 pub remove_at-requires : goal.remove_at-requires
 remove_at-requires c =
     let r = c.args.self.now in
-    let g = gone c.args.number (held r) 0 c.in-Some.p (sym c.in-Some.ensures.the_first_row_with_the_number) in
-    (omega arith, omega (arith, g.inside, length-take r.count r.trains))
+    let g = gone c.args.number (held r) 0 c.in-Some.row (sym c.in-Some.ensures.the_first_row_with_the_number) in
+    record { held = omega arith; within = omega (arith, g.inside, length-take r.count r.trains) }
 
 pub invariant_of-self : goal.invariant_of-self
 invariant_of-self c =
     let r = c.args.self.now in
     let v = c.args.number in
-    let g = gone v (held r) 0 c.in-Some.p (sym c.in-Some.ensures.the_first_row_with_the_number) in
-    let z : c.in-Some.p ≡ c.in-Some.p - 0 = omega arith in
+    let g = gone v (held r) 0 c.in-Some.row (sym c.in-Some.ensures.the_first_row_with_the_number) in
+    let z : c.in-Some.row ≡ c.in-Some.row - 0 = omega arith in
     let e : take (r.count - 1) c.remove_at.new.table ≡ without v (held r) = c.remove_at.ensures.the_place_is_gone ∙ ap (λ (i : ℕ). remove (held r) i) z ∙ g.is in
     record {
       room = omega arith;
@@ -28,19 +33,19 @@ invariant_of-self c =
       free = ap (all_open r.closed) e ∙ open_without r.closed v (held r) r.free;
     }
 
-pub returns-in-Some : goal.returns-in-Some
-returns-in-Some c =
+pub returns : goal.returns
+returns c =
     let r = c.args.self.now in
     let v = c.args.number in
-    let g = gone v (held r) 0 c.in-Some.p (sym c.in-Some.ensures.the_first_row_with_the_number) in
-    let z : c.in-Some.p ≡ c.in-Some.p - 0 = omega arith in
+    let g = gone v (held r) 0 c.in-Some.row (sym c.in-Some.ensures.the_first_row_with_the_number) in
+    let z : c.in-Some.row ≡ c.in-Some.row - 0 = omega arith in
     let e : take (r.count - 1) c.remove_at.new.table ≡ without v (held r) = c.remove_at.ensures.the_place_is_gone ∙ ap (λ (i : ℕ). remove (held r) i) z ∙ g.is in
     let n : no_number v ≡ false = sym c.if-out_of_range.ensures.whether_no_train_has_such_a_number in
     record { the_first_condition_met_declines = λ k. simp (n, g.there); a_refusal_changes_nothing = ap (λ (l : List _). record { trains = l; closed = has r.closed }) e }
 
-pub returns-in-None : goal.returns-in-None
-returns-in-None c =
+pub returns-in_default : goal.returns-in_default
+returns-in_default c =
     let v = c.args.number in
-    let g = absent v (held c.args.self.now) 0 (sym c.in-None.ensures.the_first_row_with_the_number) in
+    let g = absent v (held c.args.self.now) 0 (sym c.find.ensures.the_first_row_with_the_number ∙ none _ c.in_default.not-Some) in
     let n : no_number v ≡ false = sym c.if-out_of_range.ensures.whether_no_train_has_such_a_number in
     record { the_first_condition_met_declines = λ k. simp (n, g.there); a_refusal_changes_nothing = refl }

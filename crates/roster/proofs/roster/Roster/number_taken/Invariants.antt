@@ -1,6 +1,0 @@
-use Rattle.std.proofs.Common.{◌≡◌, take, drop}
-use Rattle.roster.specs.Trains.{taken, number_of}
-use Rattle.roster.proofs.roster.Roster.number_taken.Given as goal
-
-abbrev pub invariant-loop-i : goal.invariant-loop-i
-invariant-loop-i l = taken number_of l.v (drop l.i (take l.self.count l.self.trains)) ≡ taken number_of l.v (take l.self.count l.self.trains)
