@@ -1,11 +1,11 @@
 -- What an answer says, and what it leaves in the sheet.
-use Rattle.std.specs.Prelude.{◌≡◌, ℕ, ◌+◌, ◌*◌, ◌≤◌}
+use Rattle.std.specs.Prelude.{◌≡◌, ℕ, ◌+◌, ◌*◌, ◌≤◌, Ok, Err, Result}
 use Rattle.sheets.specs.Problem.{Member}
 use Rattle.sheets.specs.Plan.{Best, Without, cost}
 use Rattle.sheets.specs.Inquiry.{Inquiry, plan_of, trains}
 use Rattle.sheets.specs.declared.sheet.Sheet.{Sheet}
-use Rattle.search.specs.declared.answer.Answer.{Answer}
-use Rattle.search.specs.declared.answer.Answer.TheVariants.{BeyondReach, NoSheet, Found}
+use Rattle.search.specs.declared.answer.Unplanned.{Unplanned}
+use Rattle.search.specs.declared.answer.Unplanned.TheVariants.{BeyondReach, NoSheet}
 
 -- a group of one train, with a cell for each section and time
 pub record OneTrain {C : Type 0} (i : Inquiry C) (cells : ℕ) : Type 0 where
@@ -23,7 +23,7 @@ pub record Solved {C : Type 0} (i : Inquiry C) (old new : Sheet) (c : C) : Type 
   pub others : OthersKept i old new
 
 -- beyond reach exactly for a group that is not taken; of one that is taken, none exactly if no sheet is lawful
-abbrev pub Answered : {C : Type 0} → Inquiry C → (Taken : Type 0) → (old new : Sheet) → Answer C → Type 0
-Answered i Taken old new BeyondReach = (Taken → ⊥) × (new ≡ old)
-Answered i Taken old new NoSheet = Taken × (new ≡ old) × Without i.problem i.group
-Answered i Taken old new (Found c) = Taken × Solved i old new c
+abbrev pub Answered : {C : Type 0} → Inquiry C → (Taken : Type 0) → (old new : Sheet) → Result C Unplanned → Type 0
+Answered i Taken old new (Err BeyondReach) = (Taken → ⊥) × (new ≡ old)
+Answered i Taken old new (Err NoSheet) = Taken × (new ≡ old) × Without i.problem i.group
+Answered i Taken old new (Ok c) = Taken × Solved i old new c

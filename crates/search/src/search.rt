@@ -1,12 +1,12 @@
 ghost use Rattle.std.specs.Prelude.{◌≡◌, ℕ, length};
-ghost use Rattle.sheets.specs.Inquiry.{Inquiry, inquiry};
+ghost use Rattle.sheets.specs.Inquiry.{Inquiry, inquired};
 ghost use Rattle.sheets.specs.Theorems.{Same};
 ghost use Rattle.search.specs.Answers.{OneTrain, Answered};
 
 use crate::answer::Answer;
 use rules::rule::Rule;
 use scales::scale::Scale;
-use sheets::question::Question;
+use sheets::asked::Asked;
 use sheets::sheet::Sheet;
 
 // A search for the best sheet of a group, under a scale. It works in a worksheet of cells, each of which holds one cost or none.
@@ -17,14 +17,12 @@ pub trait Search<S: Scale> {
     // Asks for the best sheet of the question's group under the rule, and writes it into the group's rows.
     fn search<R: Rule>(
         &mut self,
-        rule: &R,
-        scale: &S,
-        question: &Question,
+        asked: &Asked<R, S>,
         cells: &mut [Option<S::Cost>],
         sheet: &mut Sheet,
     ) -> Answer<S::Cost>
         ensures asking_leaves_the_meaning { (i : Inquiry S.Cost) (n : ℕ) → Same (takes self.new i n) (takes self.old i n) }
-        ensures the_answer_is_right { Answered (inquiry (R.Rule.conflicts rule.now) (S.Scale.measure scale.now) question.now) (takes self.old (inquiry (R.Rule.conflicts rule.now) (S.Scale.measure scale.now) question.now) (length cells.old)) sheet.old sheet.new result };
+        ensures the_answer_is_right { Answered (inquired R.Rule.conflicts S.Scale.measure asked.now) (takes self.old (inquired R.Rule.conflicts S.Scale.measure asked.now) (length cells.old)) sheet.old sheet.new result };
 
     ghost one_train: { (s : Self) (i : Inquiry S.Cost) (cells : ℕ) → OneTrain i cells → takes s i cells };
 }

@@ -8,3 +8,4 @@ pub mod Exists
 pub mod Alls
 pub mod Posed
 pub mod Agreed
+pub mod Marks

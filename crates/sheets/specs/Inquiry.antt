@@ -10,6 +10,7 @@ use Rattle.roster.specs.declared.roster.Roster.{Roster}
 use Rattle.sheets.specs.Problem.{Problem, Group, count}
 use Rattle.sheets.specs.Plan.{Plan}
 use Rattle.sheets.specs.Posing.{marked}
+use Rattle.sheets.specs.declared.asked.Asked.{Asked}
 use Rattle.sheets.specs.declared.sheet.Sheet.{Sheet}
 use Rattle.sheets.specs.declared.question.Question.{Question}
 
@@ -45,6 +46,10 @@ inquiry conflicts m q = record {
   problem = problem_of (conflicts q.layout.now) q.layout.now q.roster.now q.steps;
   group = marked q.group;
 }
+
+-- what is asked, by what its rule and its scale mean
+abbrev pub inquired : {R S C : Type 0} → (R → Layout → Conflicts) → (S → Measure C) → Asked R S → Inquiry C
+inquired conflicts measure a = inquiry (conflicts a.rule.now) (measure a.scale.now) a.question.now
 
 -- how many trains the group has
 abbrev pub trains : {C : Type 0} → Inquiry C → ℕ

@@ -11,6 +11,10 @@ use Rattle.sheets.specs.Problem.{Group, count, all}
 abbrev pub marked : List Bool → Group
 marked marks r = slice_index_or marks r false
 
+-- the group of all of n trains
+abbrev pub all_trains : (n : ℕ) → Group
+all_trains n r = nat_lt r n
+
 -- every train's start and goal are on the layout
 unfoldable pub all_on : Layout → Roster → Bool
 all_on l o = all (rows_of o) (λ r. nat_lt (start_at o r) (sections_of l) && nat_lt (goal_at o r) (sections_of l))

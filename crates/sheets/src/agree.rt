@@ -1,10 +1,11 @@
 ghost use Rattle.std.specs.Prelude.{◌≡◌, ◌+◌, ◌≤◌, nat_eq, slice_index};
 ghost use Rattle.sheets.specs.Problem.{all};
-ghost use Rattle.sheets.specs.Inquiry.{inquiry, plan_of};
+ghost use Rattle.sheets.specs.Inquiry.{inquired, plan_of};
 ghost use Rattle.sheets.specs.Posing.{marked};
 ghost use Rattle.sheets.specs.Theorems.{AtMostOneIsBest, BestOrNone, Agreeing, same_rows};
 ghost use Rattle.roster.specs.Model.{rows_of};
 
+use crate::asked::Asked;
 use crate::question::Question;
 use crate::sheet::Sheet;
 use rules::rule::Rule;
@@ -35,16 +36,10 @@ fn same_rows(question: &Question, a: &Sheet, b: &Sheet) -> bool
 }
 
 // Whether two sheets count as one for the question: they differ nowhere in the group's rows at times 0 to the last.
-pub fn agree<R: Rule, S: Scale>(
-    rule: &R,
-    scale: &S,
-    question: &Question,
-    a: &Sheet,
-    b: &Sheet,
-) -> bool
-    ensures true_exactly_if_they_count_as_one { Agreeing (inquiry (R.Rule.conflicts rule.now) (S.Scale.measure scale.now) question.now) (plan_of a.now) (plan_of b.now) result }
-    ensures at_most_one_sheet_is_best { AtMostOneIsBest (inquiry (R.Rule.conflicts rule.now) (S.Scale.measure scale.now) question.now) }
-    ensures a_group_has_a_best_sheet_or_no_lawful_one { BestOrNone (inquiry (R.Rule.conflicts rule.now) (S.Scale.measure scale.now) question.now) }
+pub fn agree<R: Rule, S: Scale>(asked: &Asked<R, S>, a: &Sheet, b: &Sheet) -> bool
+    ensures true_exactly_if_they_count_as_one { Agreeing (inquired R.Rule.conflicts S.Scale.measure asked.now) (plan_of a.now) (plan_of b.now) result }
+    ensures at_most_one_sheet_is_best { AtMostOneIsBest (inquired R.Rule.conflicts S.Scale.measure asked.now) }
+    ensures a_group_has_a_best_sheet_or_no_lawful_one { BestOrNone (inquired R.Rule.conflicts S.Scale.measure asked.now) }
 {
-    same_rows(question, a, b)
+    same_rows(asked.question, a, b)
 }

@@ -2,6 +2,8 @@
 #![tactic(auto)]
 
 pub mod agree;
+pub mod asked;
+pub mod everyone;
 pub mod pose;
 pub mod price;
 pub mod question;

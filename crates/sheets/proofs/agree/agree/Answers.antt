@@ -8,11 +8,11 @@ use Rattle.sheets.proofs.agree.agree.Goals as goal
 
 pub returns : goal.returns
 returns g c =
-    let q = c.args.question.now in
-    let S = g.S.Scale.measure c.args.scale.now in
-    let L = g.met.S.Scale.lawful c.args.scale.now in
-    let K = laws_of _ (g.met.R.Rule.lawful c.args.rule.now q.layout.now) q in
-    let i = inquiry (g.R.Rule.conflicts c.args.rule.now) S q in
+    let q = c.args.asked.now.question.now in
+    let S = g.S.Scale.measure c.args.asked.now.scale.now in
+    let L = g.met.S.Scale.lawful c.args.asked.now.scale.now in
+    let K = laws_of _ (g.met.R.Rule.lawful c.args.asked.now.rule.now q.layout.now) q in
+    let i = inquiry (g.R.Rule.conflicts c.args.asked.now.rule.now) S q in
     let e = same_told i.problem i.group (plan_of c.args.a.now) (plan_of c.args.b.now) in
     record {
       true_exactly_if_they_count_as_one = record { to = λ h. e.to (sym c.same_rows.ensures.whether_the_rows_of_the_group_are_the_same ∙ h); back = λ s. c.same_rows.ensures.whether_the_rows_of_the_group_are_the_same ∙ e.back s };
