@@ -6,3 +6,4 @@ pub mod Runs
 pub mod Cells
 pub mod StepLaws
 pub mod PairLaws
+pub mod Words

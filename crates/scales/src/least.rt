@@ -12,16 +12,9 @@ fn lower_of<S: Scale>(
 ) -> Option<(usize, S::Cost)>
     ensures the_lower_and_in_a_tie_the_earlier { result ≡ nearer (S.Scale.measure scale.now) best i cell }
 {
-    match (best, cell) {
-        (best, None) => best,
-        (None, Some(new)) => Some((i, new)),
-        (Some((place, old)), Some(new)) => {
-            if scale.lower(new, old) {
-                Some((i, new))
-            } else {
-                Some((place, old))
-            }
-        }
+    match cell {
+        Some(new) if best.is_none_or(|(_, old)| scale.lower(new, old)) => Some((i, new)),
+        _ => best,
     }
 }
 
@@ -30,8 +23,8 @@ pub fn first_least<S: Scale>(scale: &S, run: &[Option<S::Cost>]) -> Option<(usiz
     ensures the_first_of_the_least { FirstLeast (S.Scale.measure scale.now) (length run.now) (λ i. slice_index_or run.now i None) result }
 {
     let mut best = None;
-    for i in 0..run.len() {
-        best = lower_of(scale, best, i, run[i]);
+    for (i, cell) in run.iter().enumerate() {
+        best = lower_of(scale, best, i, *cell);
     }
     best
 }

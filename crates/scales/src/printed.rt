@@ -1,4 +1,4 @@
-ghost use Rattle.std.specs.Prelude.{◌≡◌, ℕ, ◌+◌, ◌/◌, ◌%◌, ◌≤◌, List, length, take, drop, slice_set};
+ghost use Rattle.std.specs.Prelude.{◌≡◌, ℕ, ◌≤◌, List, length, take, drop};
 ghost use Rattle.scales.specs.Bytes.{high_first, pair_bytes};
 ghost use Rattle.std.proofs.Common.{rules};
 
@@ -21,16 +21,6 @@ pub trait PrintedScale: Scale {
     ghost at_most_four: { (s : Self) (cost : Self.Cost) → length (shown s cost) ≤ 4 };
 }
 
-// Writes a number as two bytes, the high one first.
-fn put(out: &mut [u8; 4], at: usize, n: u16)
-    requires { at ≤ 2 }
-    ensures both_bytes_are_written { out.new ≡ slice_set (slice_set out.old at (n / 256)) (at + 1) (n % 256) }
-{
-    let (high, low) = (n / 256, n % 256);
-    out[at] = high as u8;
-    out[at + 1] = low as u8;
-}
-
 // The steps, in two bytes.
 impl PrintedScale for Steps {
     ghost shown = { λ _ cost. high_first cost };
@@ -38,7 +28,7 @@ impl PrintedScale for Steps {
     ghost at_most_four = { Prim.search rules };
 
     fn write_bytes(&self, cost: u16, out: &mut [u8; 4]) -> usize {
-        put(out, 0, cost);
+        out[..2].copy_from_slice(&cost.to_be_bytes());
         2
     }
 }
@@ -51,8 +41,8 @@ impl PrintedScale for StepsThenPoints {
 
     fn write_bytes(&self, cost: Pair, out: &mut [u8; 4]) -> usize {
         let Pair { steps, points } = cost;
-        put(out, 0, steps);
-        put(out, 2, points);
+        out[..2].copy_from_slice(&steps.to_be_bytes());
+        out[2..].copy_from_slice(&points.to_be_bytes());
         4
     }
 }

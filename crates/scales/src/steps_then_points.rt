@@ -20,7 +20,7 @@ impl Scale for StepsThenPoints {
     ghost small = { Prim.search rules };
 
     fn lower(&self, a: Pair, b: Pair) -> bool {
-        (a.steps < b.steps) | ((a.steps == b.steps) & (a.points < b.points))
+        a < b
     }
 
     fn join(&self, a: Pair, b: Pair) -> Pair {
@@ -38,6 +38,6 @@ impl Scale for StepsThenPoints {
         if rests {
             return self.nothing();
         }
-        Pair::of(1, points as u16)
+        Pair::of(1, u16::from(points))
     }
 }
