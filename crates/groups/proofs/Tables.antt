@@ -1,32 +1,37 @@
--- Names in a table of eight rows.
-use Rattle.std.proofs.Common.{◌≡◌, ℕ, zero, suc, ◌+◌, ◌<◌, ◌≤◌, Bool, true, false, cond, ◌&&◌, eqb, ltb, ◌⊎◌, List, [], ◌∷◌, length, get_or, set, sym, refl, ap, ◌∙◌, inl, inr, arith, length-set, get_or-set_other, get_or-set_same}
+-- Names in a table of eight rows, and tables that are made by calls.
+use Rattle.std.proofs.Common.{◌≡◌, ℕ, zero, suc, ◌+◌, ◌<◌, ◌≤◌, Bool, true, false, cond, ◌&&◌, eqb, ◌⊎◌, List, [], ◌∷◌, length, get_or, zero-add, sym, refl, ap, ◌∙◌, subst, inl, inr, ⊎_elim, arith}
 use mathlib.Core.Path.{fun_ext}
-use Rattle.std.proofs.lemmas.Bool.{cases_lt, cases_eq, and_parts, and_from, and_left, ltb-true, lt-ltb, eq-eqb, ne_eqb, cond-true, cond-false}
-use Rattle.groups.specs.Names.{all_rows}
+use Rattle.std.proofs.lemmas.Bool.{cases_lt, cases_eq, and_left, ne_eqb, cond-false}
+use Rattle.std.proofs.lemmas.List.{get_or_past, get_or_default}
+use Rattle.std.specs.Fn.{Mut, Called}
+use Rattle.std.specs.Array.{IsFromFnResultFrom, MapsFrom}
+use Rattle.std.specs.List.{filter, range_with_len}
+use Rattle.sheets.specs.Problem.{count}
+use Rattle.sheets.proofs.Alls.{count_yes, count_no}
 use Rattle.groups.specs.Parts.{merged, part}
 use Rattle.groups.specs.Model.{naming}
 use Rattle.groups.specs.declared.parts.Parts.{Parts}
 
--- which default is taken does not matter inside the table
-pub read_any : {A : Type 0} (xs : List A) (i : ℕ) (a b : A) → i < length xs → get_or xs i a ≡ get_or xs i b
-read_any [] i a b h = absurd (omega arith)
-read_any (x ∷ xs) zero a b h = refl
-read_any (x ∷ xs) (suc i) a b h = read_any xs i a b (omega arith)
+-- what an array made by calls holds at each place, where each call answers h and leaves the closure as it was
+module _ {F B : Type 0} (g : Mut F (ℕ × Unit {0}) B) (h : ℕ → B) (f : F) (says : (i : ℕ) (y : B) (q : F) → Called g f (i, tt) y q → (q ≡ f) × (y ≡ h i)) where
+  pub made_at : (ys : List B) (i n : ℕ) → IsFromFnResultFrom g f ys i n → (k : ℕ) (d : B) → i ≤ k → k < i + n → get_or ys k d ≡ h k
+  made_at ys i zero m k d a b = absurd (omega arith)
+  made_at ys i (suc n) m k d a b =
+      let s = says i m.1 m.0 m.3 in
+      ⊎_elim
+      (λ e. rw e (m.2.1 d ∙ s.1))
+      (λ e. made_at ys (i + 1) n (subst (λ (v : F). IsFromFnResultFrom g v ys (i + 1) n) s.0 m.4) k d (omega arith) (omega arith))
+      (cases_eq k i)
 
-pub read_past : {A : Type 0} (xs : List A) (i : ℕ) (a : A) → length xs ≤ i → get_or xs i a ≡ a
-read_past [] i a h = refl
-read_past (x ∷ xs) zero a h = absurd (omega arith)
-read_past (x ∷ xs) (suc i) a h = read_past xs i a (omega arith)
-
-pub rows_at : (xs : List ℕ) (i : ℕ) → all_rows xs ≡ true → i < length xs → get_or xs i 0 < 8
-rows_at [] i e h = absurd (omega arith)
-rows_at (x ∷ xs) zero e h = ltb-true x 8 (and_parts (ltb x 8) (all_rows xs) e).0
-rows_at (x ∷ xs) (suc i) e h = rows_at xs i (and_parts (ltb x 8) (all_rows xs) e).1 (omega arith)
-
-pub rows_set : (xs : List ℕ) (i n : ℕ) → all_rows xs ≡ true → n < 8 → all_rows (set xs i n) ≡ true
-rows_set [] i n e h = refl
-rows_set (x ∷ xs) zero n e h = and_from (ltb n 8) (all_rows xs) (lt-ltb n 8 h) (and_parts (ltb x 8) (all_rows xs) e).1
-rows_set (x ∷ xs) (suc i) n e h = and_from (ltb x 8) (all_rows (set xs i n)) (and_parts (ltb x 8) (all_rows xs) e).0 (rows_set xs i n (and_parts (ltb x 8) (all_rows xs) e).1 h)
+module _ {F A B : Type 0} (g : Mut F (A × Unit {0}) B) (h : A → B) (f : F) (says : (x : A) (y : B) (q : F) → Called g f (x, tt) y q → (q ≡ f) × (y ≡ h x)) where
+  pub mapped_at : (xs : List A) (ys : List B) (i n : ℕ) → MapsFrom g f xs ys i n → (k : ℕ) (d : A) (e : B) → i ≤ k → k < i + n → get_or ys k e ≡ h (get_or xs k d)
+  mapped_at xs ys i zero m k d e a b = absurd (omega arith)
+  mapped_at xs ys i (suc n) m k d e a b =
+      let s = says m.1 m.2 m.0 m.5 in
+      ⊎_elim
+      (λ z. rw z (m.4.1 e ∙ s.1 ∙ ap h (sym (m.3.1 d))))
+      (λ z. mapped_at xs ys (i + 1) n (subst (λ (v : F). MapsFrom g v xs ys (i + 1) n) s.0 m.6) k d e (omega arith) (omega arith))
+      (cases_eq k i)
 
 pub alone_table : (r : ℕ) → get_or (0 ∷ (1 ∷ (2 ∷ (3 ∷ (4 ∷ (5 ∷ (6 ∷ (7 ∷ [])))))))) r r ≡ r
 alone_table zero = refl
@@ -42,68 +47,55 @@ alone_table (suc (suc (suc (suc (suc (suc (suc (suc r)))))))) = refl
 -- the name of a row of the table
 pub name_in : (p : Parts) (r : ℕ) → length p.names ≡ 8 → r < 8 → naming p r ≡ get_or p.names r 0
 unfolding naming
-name_in p r l h = read_any p.names r r 0 (omega arith)
+name_in p r l h = get_or_default p.names r r 0 (omega arith)
 
 pub name_past : (p : Parts) (r : ℕ) → length p.names ≡ 8 → 8 ≤ r → naming p r ≡ r
 unfolding naming
-name_past p r l h = read_past p.names r r (omega arith)
+name_past p r l h = get_or_past p.names r r (omega arith)
 
--- a table in which the name `gone` has become `kept` below i, and the rest is as it was
-abbrev pub Renamed : (old new : List ℕ) (kept gone i : ℕ) → Type 0
-Renamed old new kept gone i =
-    ((k : ℕ) → k < i → get_or new k 0 ≡ cond (eqb (get_or old k 0) gone) kept (get_or old k 0))
-    × ((k : ℕ) → i ≤ k → get_or new k 0 ≡ get_or old k 0)
+-- the name that the part of a row goes by once the parts of r and o are one
+abbrev pub renamed : (names : List ℕ) (r o name : ℕ) → ℕ
+renamed names r o name = cond (eqb name (get_or names o 0)) (get_or names r 0) name
 
-pub length_kept : {A : Type 0} (xs : List A) (i : ℕ) (v : A) → length xs ≡ 8 → length (set xs i v) ≡ 8
-length_kept xs i v e = length-set xs i v ∙ e
+module _ (p : Parts) (r o : ℕ) (long : length p.names ≡ 8) (hr : r < 8) (ho : o < 8) where
+  pub renamed_row : (name : ℕ) → name < 8 → renamed p.names r o name < 8
+  renamed_row name l = go (eqb name (get_or p.names o 0))
+    where
+      go : (b : Bool) → cond b (get_or p.names r 0) name < 8
+      go true = p.rows r 0 (omega arith)
+      go false = l
 
-pub renamed_none : (old : List ℕ) (kept gone : ℕ) → Renamed old old kept gone 0
-renamed_none old kept gone = ((λ k h. absurd (omega arith)), λ k h. refl)
+  pub joined_merges : (q : Parts) → length q.names ≡ 8 → ((k d e : ℕ) → 0 ≤ k → k < 8 → get_or q.names k e ≡ renamed p.names r o (get_or p.names k d)) → naming q ≡ merged (naming p) r o
+  unfolding merged
+  joined_merges q b h = fun_ext (λ k. go k (cases_lt k 8))
+    where
+      go : (k : ℕ) → (k < 8) ⊎ (8 ≤ k) → naming q k ≡ cond (eqb (naming p k) (naming p o)) (naming p r) (naming p k)
+      go k (inl l) = name_in q k b l ∙ h k 0 0 (omega arith) l ∙ sym (λ i. cond (eqb (name_in p k long l i) (name_in p o long ho i)) (name_in p r long hr i) (name_in p k long l i))
+      go k (inr l) =
+          let low = p.rows o 0 (omega arith) in
+          let far : naming p k ≡ naming p o → ⊥ = λ e. omega (arith, e, name_past p k long l, name_in p o long ho, low) in
+          name_past q k b l ∙ sym (name_past p k long l) ∙ sym (cond-false _ _ _ (ne_eqb _ _ far))
 
-pub renamed_more : (old new : List ℕ) (kept gone i : ℕ) → Renamed old new kept gone i → i < length new → get_or new i 0 ≡ gone
-    → Renamed old (set new i kept) kept gone (i + 1)
-renamed_more old new kept gone i h l e = ((λ k m. go k m (cases_eq k i)), λ k m. get_or-set_other new i k kept 0 (λ z. omega arith) ∙ h.1 k (omega arith))
-  where
-    go : (k : ℕ) → k < i + 1 → (k ≡ i) ⊎ (k ≡ i → ⊥) → get_or (set new i kept) k 0 ≡ cond (eqb (get_or old k 0) gone) kept (get_or old k 0)
-    go k m (inl z) = rw z (get_or-set_same new i kept 0 l ∙ sym (cond-true _ _ _ (eq-eqb _ _ (sym (h.1 i (omega arith)) ∙ e))))
-    go k m (inr z) = get_or-set_other new i k kept 0 z ∙ h.0 k (omega arith)
-
-pub renamed_same : (old new : List ℕ) (kept gone i : ℕ) → Renamed old new kept gone i → (get_or new i 0 ≡ gone → ⊥) → Renamed old new kept gone (i + 1)
-renamed_same old new kept gone i h e = ((λ k m. go k m (cases_eq k i)), λ k m. h.1 k (omega arith))
-  where
-    go : (k : ℕ) → k < i + 1 → (k ≡ i) ⊎ (k ≡ i → ⊥) → get_or new k 0 ≡ cond (eqb (get_or old k 0) gone) kept (get_or old k 0)
-    go k m (inl z) = rw z (h.1 i (omega arith) ∙ sym (cond-false _ _ _ (ne_eqb _ _ (λ y. e (h.1 i (omega arith) ∙ y)))))
-    go k m (inr z) = h.0 k (omega arith)
-
-pub renamed_merges : (p q : Parts) (r o : ℕ) → length p.names ≡ 8 → length q.names ≡ 8 → r < 8 → o < 8
-    → Renamed p.names q.names (get_or p.names r 0) (get_or p.names o 0) 8 → naming q ≡ merged (naming p) r o
-unfolding merged
-renamed_merges p q r o a b hr ho h = fun_ext (λ k. go k (cases_lt k 8))
-  where
-    go : (k : ℕ) → (k < 8) ⊎ (8 ≤ k) → naming q k ≡ cond (eqb (naming p k) (naming p o)) (naming p r) (naming p k)
-    go k (inl l) = name_in q k b l ∙ h.0 k l ∙ sym (λ i. cond (eqb (name_in p k a l i) (name_in p o a ho i)) (name_in p r a hr i) (name_in p k a l i))
-    go k (inr l) =
-        let low = rows_at p.names o p.rows (omega arith) in
-        let far : naming p k ≡ naming p o → ⊥ = λ e. omega (arith, e, name_past p k a l, name_in p o a ho, low) in
-        name_past q k b l ∙ sym (name_past p k a l) ∙ sym (cond-false _ _ _ (ne_eqb _ _ far))
-
--- the marks of a part, as far as they are made
-abbrev pub Marked : (p : Parts) (group marks : List Bool) (name i : ℕ) → Type 0
-Marked p group marks name i = (k : ℕ) → k < i → get_or marks k false ≡ (get_or group k false && eqb (get_or p.names k 0) name)
-
-pub marked_more : (p : Parts) (group marks : List Bool) (name i : ℕ) (v : Bool) → Marked p group marks name i → i < length marks
-    → v ≡ (get_or group i false && eqb (get_or p.names i 0) name) → Marked p group (set marks i v) name (i + 1)
-marked_more p group marks name i v h l e k m = go (cases_eq k i)
-  where
-    go : (k ≡ i) ⊎ (k ≡ i → ⊥) → get_or (set marks i v) k false ≡ (get_or group k false && eqb (get_or p.names k 0) name)
-    go (inl z) = rw z (get_or-set_same marks i v false l ∙ e)
-    go (inr z) = get_or-set_other marks i k v false z ∙ h k (omega arith)
-
+-- the marks of a part
 pub marks_part : (p : Parts) (group marks : List Bool) (name : ℕ) → length p.names ≡ 8 → length group ≡ 8 → length marks ≡ 8
-    → Marked p group marks name 8 → (λ k. get_or marks k false) ≡ part (λ k. get_or group k false) (naming p) name
+    → ((k : ℕ) → k < 8 → get_or marks k false ≡ (get_or group k false && eqb (get_or p.names k 0) name))
+    → (λ k. get_or marks k false) ≡ part (λ k. get_or group k false) (naming p) name
 unfolding part
 marks_part p group marks name a b d h = fun_ext (λ k. go k (cases_lt k 8))
   where
     go : (k : ℕ) → (k < 8) ⊎ (8 ≤ k) → get_or marks k false ≡ (get_or group k false && eqb (naming p k) name)
     go k (inl l) = h k l ∙ ap (λ (n : ℕ). get_or group k false && eqb n name) (sym (name_in p k a l))
-    go k (inr l) = read_past marks k false (omega arith) ∙ sym (and_left _ _ (read_past group k false (omega arith)))
+    go k (inr l) = get_or_past marks k false (omega arith) ∙ sym (and_left _ _ (get_or_past group k false (omega arith)))
+
+-- how many numbers from a on pass a test, where those below a are counted apart
+counted_from : (f : ℕ → Bool) (a n b : ℕ) → a + n ≡ b → length (filter f (range_with_len a n)) + count a f ≡ count b f
+counted_from f a zero b e = let z : a ≡ b = omega arith in rw z (zero-add (count b f))
+counted_from f a (suc n) b e = go (f a) refl (counted_from f (a + 1) n b (omega arith))
+  where
+    go : (v : Bool) → f a ≡ v → length (filter f (range_with_len (a + 1) n)) + count (a + 1) f ≡ count b f
+        → length (cond v (a ∷ filter f (range_with_len (a + 1) n)) (filter f (range_with_len (a + 1) n))) + count a f ≡ count b f
+    go true e h = omega (arith, h, count_yes a f e)
+    go false e h = omega (arith, h, count_no a f e)
+
+pub counted : (f : ℕ → Bool) (n : ℕ) → length (filter f (range_with_len 0 n)) ≡ count n f
+counted f n = omega (arith, counted_from f 0 n n)

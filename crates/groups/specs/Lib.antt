@@ -1,5 +1,4 @@
 pub mod Parts
-pub mod Names
 pub mod Model
 pub mod Course
 pub mod Laws

@@ -6,6 +6,7 @@ ghost use Rattle.groups.specs.Laws.{AsManyPartsAsTrainsAtFirst, EachJoiningTakes
 ghost use Rattle.groups.specs.Model.{naming};
 
 use crate::parts::Parts;
+use std::array;
 
 impl Parts {
     // Each row is a part of its own.
@@ -19,10 +20,11 @@ impl Parts {
     }
 
     // The row that the part of `row` goes by.
+    #[tactic(auto, unfolding(crate::specs::Model::naming))]
     pub fn name(&self, row: usize) -> usize
         ensures the_name_of_its_part { result ≡ naming self.now row }
     {
-        if row < 8 { self.names[row] } else { row }
+        self.names.get(row).copied().unwrap_or(row)
     }
 
     // The parts of the two rows as one, under the name of the first. Rows that no roster has are left alone.
@@ -36,12 +38,9 @@ impl Parts {
         }
         let stays = self.names[row];
         let gone = self.names[other];
-        let mut names = self.names;
-        for p in 0..8 {
-            if names[p] == gone {
-                names[p] = stays;
-            }
-        }
+        let names = self
+            .names
+            .map(|name| if name == gone { stays } else { name });
         Parts { names }
     }
 
@@ -50,10 +49,6 @@ impl Parts {
         ensures the_rows_of_its_part { marked result ≡ part (marked group) (naming self.now) (naming self.now row) }
     {
         let name = self.name(row);
-        let mut marks = [false; 8];
-        for p in 0..8 {
-            marks[p] = group[p] & (self.names[p] == name);
-        }
-        marks
+        array::from_fn(|p| group[p] & (self.names[p] == name))
     }
 }

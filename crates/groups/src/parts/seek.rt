@@ -21,7 +21,9 @@ fn clashes<R: Rule>(
     row: usize,
     other: usize,
 ) -> bool
-    requires { (step < 16) × ((row < 8) × (other < 8)) }
+    requires a_step { step < 16 }
+    requires a_row { row < 8 }
+    requires another_row { other < 8 }
     ensures whether_their_moves_conflict { result ≡ clash (problem_of (R.Rule.conflicts rule.now question.now.layout.now) question.now.layout.now question.now.roster.now question.now.steps) (plan_of sheet.now) step row other }
 {
     let a = sheet.rows[row];
@@ -32,23 +34,20 @@ fn clashes<R: Rule>(
 impl Parts {
     // Whether the two rows are of the group, and of different parts.
     fn apart(&self, group: [bool; 8], row: usize, other: usize) -> bool
-        requires { (row < 8) × (other < 8) }
+        requires a_row { row < 8 }
+        requires another_row { other < 8 }
         ensures whether_they_are_of_different_parts { result ≡ ((marked group row && marked group other) && not (naming self.now row == naming self.now other)) }
     {
-        (group[row] & group[other]) & (self.names[row] != self.names[other])
+        group[row] && group[other] && self.name(row) != self.name(other)
     }
 
     // How many parts the question's group has.
     pub fn count(&self, question: &Question) -> usize
         ensures one_for_each_row_that_its_part_goes_by { result ≡ parts (rows_of question.now.roster.now) (marked question.now.group) (naming self.now) }
     {
-        let mut count = 0;
-        for row in 0..question.roster.count() {
-            if question.group[row] & (self.names[row] == row) {
-                count += 1;
-            }
-        }
-        count
+        (0..question.roster.count())
+            .filter(|&row| question.group[row] & (self.names[row] == row))
+            .count()
     }
 
     // The first conflict between rows of different parts: the lowest step, then the lowest row, then the lowest other row.
@@ -61,7 +60,8 @@ impl Parts {
         ensures the_first_conflict_between_parts_or_none { MatchOption result (NoClash (problem_of (R.Rule.conflicts rule.now question.now.layout.now) question.now.layout.now question.now.roster.now question.now.steps) (marked question.now.group) (naming self.now) (plan_of sheet.now)) (λ c. FirstClash (problem_of (R.Rule.conflicts rule.now question.now.layout.now) question.now.layout.now question.now.roster.now question.now.steps) (marked question.now.group) (naming self.now) (plan_of sheet.now) c.step c.row c.other) }
     {
         let rows = question.roster.count();
-        let found = 'seek: {
+        // three loops, left at the first conflict: a chain would carry a triple through two more closures
+        'seek: {
             for step in 0..question.steps {
                 for row in 0..rows {
                     for other in row + 1..rows {
@@ -74,7 +74,6 @@ impl Parts {
                 }
             }
             None
-        };
-        found
+        }
     }
 }

@@ -1,38 +1,25 @@
-use Rattle.std.proofs.Common.{◌≡◌, ℕ, ◌+◌, ◌&&◌, eqb, sym, refl, ap, ◌∙◌, arith}
+use Rattle.std.proofs.Common.{ℕ, ◌&&◌, eqb, get_or, ap, ◌∙◌, sym, rules, arith}
+use Rattle.std.proofs.lemmas.Iterator.{YieldsList-from_range}
+use Rattle.std.proofs.lemmas.Iterator.Consumers.{YieldsList-from_filter, count_from_yields_List}
+use borrow.Author.Tests.{tests}
 use Rattle.sheets.specs.Posing.{marked}
-use Rattle.sheets.proofs.Alls.{count_yes, count_no}
 use Rattle.groups.specs.Parts.{parts}
 use Rattle.groups.specs.Model.{naming}
-use Rattle.groups.proofs.Tables.{name_in}
+use Rattle.groups.proofs.Tables.{counted, name_in}
+use Rattle.groups.proofs.Fewer.{count_same}
 use Rattle.groups.proofs.parts.Parts.count.Goals as goal
-use Rattle.groups.proofs.parts.Parts.count.Goals.{then-question-row, else-question-row}
-
-pub loop-row-init : goal.loop-row-init
-unfolding parts
-loop-row-init c = (refl, omega arith)
-
-pub overflow_add-count : goal.overflow_add-count
-overflow_add-count c = omega (arith, c.loop-row.invariant.1, c.count-row-end.ensures.at_most_eight)
-
-pub loop-row-preserved : goal.loop-row-preserved
-unfolding parts
-loop-row-preserved c =
-    let p = c.args.self.now in
-    let G = marked c.args.question.now.group in
-    let row = c.loop-row.row in
-    let e = ap (λ (n : ℕ). G row && eqb n row) (name_in p row (omega arith) (omega (arith, c.count-row-end.ensures.at_most_eight))) in
-    elim c.if-question-row.branch [
-      | then-question-row w ↦
-          let h = count_yes row (λ r. G r && eqb (naming p r) r) (e ∙ w.if-question-row.true) in
-          (w.count-is ∙ ap (λ (n : ℕ). n + 1) c.loop-row.invariant.0 ∙ sym h, omega (arith, w.count-is, c.loop-row.invariant.1))
-      | else-question-row w ↦
-          let h = count_no row (λ r. G r && eqb (naming p r) r) (e ∙ w.if-question-row.false) in
-          (w.count-is ∙ c.loop-row.invariant.0 ∙ sym h, omega (arith, w.count-is, c.loop-row.invariant.1))
-    ]
 
 pub returns : goal.returns
-returns c = record {
-  one_for_each_row_that_its_part_goes_by =
-      let e : c.loop-row.row ≡ c.count-row-end.result = omega arith in
-      c.loop-row.invariant.0 ∙ ap (λ (n : ℕ). parts n (marked c.args.question.now.group) (naming c.args.self.now)) (e ∙ c.count-row-end.ensures.as_many_as_there_are_rows);
-}
+unfolding parts
+returns c =
+    let p = c.args.self.now in
+    let G = marked c.args.question.now.group in
+    let n = c.count.result in
+    let here = λ (r : ℕ). G r && eqb (get_or p.names r 0) r in
+    let listed = count_from_yields_List c.filter.result c.count-2.result c.count-2.ensures.ran (YieldsList-from_filter _ here (YieldsList-from_range 0 n n (cc) (omega arith)) c.filter.ensures.closure (λ x b q k. search (rules, tests))) in
+    record {
+      one_for_each_row_that_its_part_goes_by =
+          listed ∙ counted here n
+          ∙ count_same n (λ r. G r && eqb (naming p r) r) here (λ r l. ap (λ (k : ℕ). G r && eqb k r) (sym (name_in p r (omega arith) (omega (arith, c.count.ensures.at_most_eight)))))
+          ∙ ap (λ (k : ℕ). parts k G (naming p)) c.count.ensures.as_many_as_there_are_rows;
+    }

@@ -7,9 +7,8 @@ use Rattle.groups.proofs.Seeking.{hit, others_more, rows_more, steps_more, no_hi
 use Rattle.groups.proofs.parts.Parts.first_conflict.Goals as goal
 use Rattle.groups.proofs.parts.Parts.first_conflict.Goals.{else-apart-via-then-apart+else-clashes, else-apart-via-else-apart}
 
-pub clashes-requires : goal.clashes-requires
-clashes-requires g c =
-    (omega (arith, (sound c.args.question.now).steps_most), (omega (arith, c.count-rows.ensures.at_most_eight), omega (arith, c.count-rows.ensures.at_most_eight)))
+pub clashes-requires-clause-a_step : goal.clashes-requires-clause-a_step
+clashes-requires-clause-a_step g c = omega (arith, (sound c.args.question.now).steps_most)
 
 pub loop-other-preserved : goal.loop-other-preserved
 loop-other-preserved g c =
