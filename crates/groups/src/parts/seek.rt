@@ -8,9 +8,21 @@ ghost use Rattle.groups.specs.Model.{naming};
 
 use crate::conflict::Conflict;
 use crate::parts::Parts;
+use rules::moves::Move;
 use rules::rule::Rule;
 use sheets::question::Question;
 use sheets::sheet::Sheet;
+
+// The move of a row in the step that begins at the time `step`.
+fn move_in(sheet: &Sheet, step: usize, row: usize) -> Move
+    requires a_step { step < 16 }
+    requires a_row { row < 8 }
+    ensures it_begins_where_the_row_stands { result.from ≡ plan_of sheet.now row step }
+    ensures it_ends_where_the_row_stands_next { result.to ≡ plan_of sheet.now row (step + 1) }
+{
+    let sections = sheet.rows[row];
+    Move::new(sections[step], sections[step + 1])
+}
 
 // Whether the moves of two rows in the step that begins at the time `step` conflict.
 fn clashes<R: Rule>(
@@ -26,9 +38,9 @@ fn clashes<R: Rule>(
     requires another_row { other < 8 }
     ensures whether_their_moves_conflict { result ≡ clash (problem_of (R.Rule.conflicts rule.now question.now.layout.now) question.now.layout.now question.now.roster.now question.now.steps) (plan_of sheet.now) step row other }
 {
-    let a = sheet.rows[row];
-    let c = sheet.rows[other];
-    rule.conflict(question.layout, a[step], a[step + 1], c[step], c[step + 1])
+    let one = move_in(sheet, step, row);
+    let other = move_in(sheet, step, other);
+    rule.conflict(question.layout, one, other)
 }
 
 impl Parts {
