@@ -9,3 +9,4 @@ pub mod Alls
 pub mod Posed
 pub mod Agreed
 pub mod Marks
+pub mod Tables

@@ -15,12 +15,7 @@ fn same_row(x: [u8; 17], y: [u8; 17], times: usize) -> bool
     requires { times ≤ 17 }
     ensures whether_the_rows_are_the_same { result ≡ all times (λ t. nat_eq (slice_index x t) (slice_index y t)) }
 {
-    for time in 0..times {
-        if x[time] != y[time] {
-            return false;
-        }
-    }
-    true
+    x[..times] == y[..times]
 }
 
 fn same_rows(question: &Question, a: &Sheet, b: &Sheet) -> bool

@@ -1,4 +1,5 @@
-ghost use Rattle.std.specs.Prelude.{◌≡◌, ℕ, ◌+◌, ◌<◌, ◌≤◌, Bool, true, false, not, ◌&&◌, ◌||◌, Ok, Err};
+ghost use Rattle.std.specs.Prelude.{◌≡◌, ℕ, ◌+◌, ◌<◌, ◌≤◌, Bool, true, false, not, ◌&&◌, ◌||◌, Ok, Err, nat_lt};
+ghost use Rattle.std.specs.List.{list_all};
 ghost use Rattle.track.specs.Refusals.{refused_by};
 ghost use Rattle.roster.specs.Model.{rows_of};
 ghost use Rattle.sheets.specs.Problem.{count};
@@ -6,32 +7,31 @@ ghost use Rattle.sheets.specs.Posing.{marked, all_on, all_rows, question_decline
 
 use crate::question::Question;
 use roster::roster::Roster;
+use roster::train::Train;
 use track::layout::Layout;
 use track::refusal::Refusal;
+
+// Whether the starts and goals of all these trains are below the number of sections.
+fn all_below(trains: &[Train], sections: u8) -> bool
+    ensures whether_all_starts_and_goals_are_below { result ≡ list_all (λ t. nat_lt t.start sections && nat_lt t.goal sections) trains.now }
+{
+    trains
+        .iter()
+        .all(|train| train.start < sections && train.goal < sections)
+}
 
 fn all_on(layout: &Layout, roster: &Roster) -> bool
     ensures whether_all_starts_and_goals_are_on_the_layout { result ≡ all_on layout.now roster.now }
 {
-    let sections = layout.sections();
-    for row in 0..roster.count() {
-        match roster.train(row) {
-            None => return false,
-            Some(train) => {
-                if (train.start >= sections) | (train.goal >= sections) {
-                    return false;
-                }
-            }
-        }
-    }
-    true
+    all_below(roster.trains(), layout.sections())
 }
 
 fn all_rows(roster: &Roster, group: [bool; 8]) -> bool
     ensures whether_all_marks_are_rows { result ≡ all_rows roster.now group }
 {
     let rows = roster.count();
-    for row in 0..8 {
-        if group[row] & (rows <= row) {
+    for (row, marked) in group.iter().enumerate() {
+        if *marked && row >= rows {
             return false;
         }
     }
@@ -41,13 +41,10 @@ fn all_rows(roster: &Roster, group: [bool; 8]) -> bool
 fn members(roster: &Roster, group: [bool; 8]) -> usize
     ensures how_many_rows_are_marked { result ≡ count (rows_of roster.now) (marked group) }
 {
-    let mut n = 0;
-    for row in 0..roster.count() {
-        if group[row] {
-            n += 1;
-        }
-    }
-    n
+    group[..roster.count()]
+        .iter()
+        .filter(|marked| **marked)
+        .count()
 }
 
 // The question, or why it cannot be asked.

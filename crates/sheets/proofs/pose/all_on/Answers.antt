@@ -1,37 +1,19 @@
-use Rattle.std.proofs.Common.{◌≡◌, ℕ, true, false, ◌&&◌, ◌||◌, ltb, leb, sym, ap, ◌∙◌, arith}
-use Rattle.std.proofs.lemmas.Bool.Decides.{nat_tests}
-use Rattle.roster.specs.Model.{rows_of, start_at, goal_at}
-use Rattle.sheets.specs.Problem.{all}
+use Rattle.std.proofs.Math.Seq.{take-length}
+use Rattle.std.proofs.Common.{◌≡◌, ◌&&◌, ltb, length, sym, ap, ap₂, ◌∙◌, arith}
+use Rattle.std.specs.List.{list_all}
+use Rattle.roster.specs.Model.{held, no_train, rows_of, start_at, goal_at}
+use Rattle.track.specs.Layouts.{sections_of}
 use Rattle.sheets.specs.Posing.{all_on}
-use Rattle.sheets.proofs.Alls.{all_more, all_false, all_to}
+use Rattle.sheets.proofs.Tables.{front_all}
 use Rattle.sheets.proofs.pose.all_on.Goals as goal
 
-miss : (s g a b n m : ℕ) → s ≡ a → g ≡ b → m ≡ n → (leb m s || leb m g) ≡ true → (ltb a n && ltb b n) ≡ false
-miss s g a b n m d e f h = grind (arith, nat_tests)
-
-hit : (s g a b n : ℕ) → s ≡ a → g ≡ b → (leb n s || leb n g) ≡ false → (ltb a n && ltb b n) ≡ true
-hit s g a b n d e h = grind (arith, nat_tests)
-
-pub returns-in-None : goal.returns-in-None
-returns-in-None c = record { whether_all_starts_and_goals_are_on_the_layout = (absurd (omega (arith, c.in-None.ensures.a_row_has_its_start_and_goal, c.count-row-end.ensures.as_many_as_there_are_rows))) }
-
-pub returns-then-train-sections : goal.returns-then-train-sections
-unfolding all_on
-returns-then-train-sections c = record {
-  whether_all_starts_and_goals_are_on_the_layout = (let t = c.in-Some.ensures.a_row_has_its_start_and_goal in
-      sym (all_false _ _ c.loop-row.row t.inside (miss _ _ _ _ _ _ t.start t.goal c.sections-sections.ensures.how_many_sections_there_are c.if-train-sections.true)));
-}
-
-pub loop-row-preserved : goal.loop-row-preserved
-loop-row-preserved c =
-    let t = c.in-Some.ensures.a_row_has_its_start_and_goal in
-    all_more c.loop-row.row _ c.loop-row.invariant (hit _ _ _ _ _ t.start t.goal c.if-train-sections.false)
-
 pub returns : goal.returns
-unfolding all_on
-returns c = record {
-  whether_all_starts_and_goals_are_on_the_layout = (let o = c.args.roster.now in
-      let h : c.loop-row.row ≡ rows_of o = omega (arith, c.count-row-end.ensures.as_many_as_there_are_rows) in
-      all_to (rows_of o) c.loop-row.row _ h c.loop-row.invariant
-      ∙ ap (λ (n : ℕ). all (rows_of o) (λ r. ltb (start_at o r) n && ltb (goal_at o r) n)) c.sections-sections.ensures.how_many_sections_there_are);
-}
+unfolding all_on rows_of start_at goal_at
+returns c =
+    let o = c.args.roster.now in
+    let n = sections_of c.args.layout.now in
+    let told = c.all_below.ensures.whether_all_starts_and_goals_are_below in
+    let e : c.all_below.result ≡ list_all (λ t. ltb t.start n && ltb t.goal n) (held o) = told ∙ ap₂ (λ k ts. list_all (λ t. ltb t.start k && ltb t.goal k) ts) c.sections.ensures.how_many_sections_there_are c.trains.ensures.the_trains_of_the_book in
+    record {
+      whether_all_starts_and_goals_are_on_the_layout = e ∙ ap (λ ts. list_all (λ t. ltb t.start n && ltb t.goal n) ts) (sym (take-length (held o))) ∙ front_all (λ t. ltb t.start n && ltb t.goal n) (held o) no_train (length (held o)) (omega arith);
+    }

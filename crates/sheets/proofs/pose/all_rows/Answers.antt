@@ -12,17 +12,17 @@ miss g rows r n e h = grind (arith, nat_tests)
 hit : (g : Bool) (r n : ℕ) → (g && leb n r) ≡ false → (not g || ltb r n) ≡ true
 hit g r n h = grind (arith, nat_tests)
 
-pub returns-then-group-row : goal.returns-then-group-row
+pub returns-then-row-rows : goal.returns-then-row-rows
 unfolding all_rows
-returns-then-group-row c = record {
+returns-then-row-rows c = record {
   whether_all_marks_are_rows = (let g = c.args.group in
       let o = c.args.roster.now in
       let r = c.loop-row.row in
-      sym (all_false 8 (λ i. not (marked g i) || ltb i (rows_of o)) r c.loop-row-test.true (miss (marked g r) (rows_of o) r c.count-rows.result c.count-rows.ensures.as_many_as_there_are_rows c.if-group-row.true)));
+      sym (all_false 8 (λ i. not (marked g i) || ltb i (rows_of o)) r (omega arith) (miss (marked g r) (rows_of o) r c.count-rows.result c.count-rows.ensures.as_many_as_there_are_rows (grind (arith, nat_tests)))));
 }
 
 pub loop-row-preserved : goal.loop-row-preserved
-loop-row-preserved c = all_more c.loop-row.row _ c.loop-row.invariant (hit (marked c.args.group c.loop-row.row) c.loop-row.row c.count-rows.result c.if-group-row.false)
+loop-row-preserved c = all_more c.loop-row.row _ c.loop-row.invariant (hit (marked c.args.group c.loop-row.row) c.loop-row.row c.count-rows.result (let h = c.else-marked.either in grind (arith, nat_tests)))
 
 pub returns : goal.returns
 unfolding all_rows

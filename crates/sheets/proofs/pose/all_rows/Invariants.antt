@@ -4,4 +4,4 @@ use Rattle.sheets.specs.Posing.{marked}
 use Rattle.sheets.proofs.pose.all_rows.Given as goal
 
 abbrev pub invariant-loop-row : goal.invariant-loop-row
-invariant-loop-row l = all l.row (λ r. not (marked l.group r) || ltb r l.rows) ≡ true
+invariant-loop-row l = all l.row (λ r. not (marked l.fn.group r) || ltb r l.rows) ≡ true

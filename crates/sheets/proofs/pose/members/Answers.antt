@@ -1,13 +1,12 @@
-use Rattle.std.proofs.Common.{arith}
+use Rattle.std.proofs.Common.{◌≡◌, take, ap, ◌∙◌, rules, arith}
+use Rattle.std.specs.List.{count_by}
+use Rattle.sheets.specs.Problem.{count}
 use Rattle.sheets.specs.Posing.{marked}
-use Rattle.sheets.proofs.Alls.{count_yes, count_no}
+use Rattle.sheets.proofs.Tables.{front_count}
 use Rattle.sheets.proofs.pose.members.Goals as goal
-use Rattle.sheets.proofs.pose.members.Goals.{then-group-row, else-group-row}
 
-pub loop-row-preserved : goal.loop-row-preserved
-loop-row-preserved c =
-    let f = marked c.args.group in
-    elim c.if-group-row.branch [
-      | then-group-row w ↦ (let e = count_yes c.loop-row.row (marked c.args.group) w.if-group-row.true in (omega (arith, e, w.n-is, c.loop-row.invariant.0), omega (arith, w.n-is, c.loop-row.invariant.1)))
-      | else-group-row w ↦ (let e = count_no c.loop-row.row (marked c.args.group) w.if-group-row.false in (omega (arith, e, w.n-is, c.loop-row.invariant.0), omega (arith, w.n-is, c.loop-row.invariant.1)))
-    ]
+pub returns : goal.returns
+returns c =
+    let n = c.count.result in
+    let e : c.count-2.result ≡ count_by (λ b. b) (take n c.args.group) = search rules in
+    record { how_many_rows_are_marked = e ∙ front_count c.args.group n (omega arith) ∙ ap (λ k. count k (marked c.args.group)) c.count.ensures.as_many_as_there_are_rows }
