@@ -11,3 +11,6 @@ pub mod Bridges
 pub mod RowProofs
 pub mod Solving
 pub mod Turns
+pub mod Pairs
+pub mod Made
+pub mod Boards

@@ -1,7 +1,13 @@
 -- Rows chosen one after the other, and rows written one after the other.
-use Rattle.std.proofs.Common.{◌≡◌, ℕ, suc, ◌+◌, ◌*◌, ◌<◌, true, false, List, [], length, get_or, set, sym, refl, ap, ◌∙◌, subst, ⊎_elim, add-one, arith, length-set, get_or-set_other, get_or-set_same}
+use Rattle.std.proofs.Common.{◌≡◌, ℕ, suc, ◌+◌, ◌-◌, ◌<◌, ◌≤◌, true, false, List, [], ◌++◌, length, get_or, set, take, drop, map, sym, refl, ap, ◌∙◌, subst, ⊎_elim, add-one, arith, length-set, length-take-le, get_or-take, get_or-set_other, get_or-set_same}
 use Rattle.std.proofs.lemmas.Bool.{cases_lt, cases_eq}
-use Rattle.roster.specs.Model.{start_at, goal_at}
+use Rattle.std.proofs.lemmas.List.{get_or_append_left, get_or-append_right, get_or-drop}
+use Rattle.std.proofs.lemmas.List.FromFn.{length-map-range_with_len, get_or-map-range_with_len}
+use Rattle.std.proofs.lemmas.Option.{slice_get-get_or}
+use Rattle.std.specs.List.{range_with_len, slice_get}
+use Rattle.roster.specs.declared.roster.Roster.{Roster}
+use Rattle.roster.specs.declared.train.Train.{Train}
+use Rattle.roster.specs.Model.{start_at, goal_at, OnRow, RowIs}
 use Rattle.sheets.specs.Problem.{count}
 use Rattle.sheets.specs.declared.question.Question.{Question}
 use Rattle.sheets.specs.declared.sheet.Sheet.{Sheet}
@@ -9,6 +15,10 @@ use Rattle.sheets.specs.Inquiry.{plan_of}
 use Rattle.words.proofs.Gathering.{count_more, count_less}
 use Rattle.words.specs.declared.chosen.Chosen.{Chosen}
 use Rattle.words.specs.Rows.{added, row_of, group_of, ChosenTo, planned, RowWritten, Written, Rows}
+
+-- the train that a loop over the roster's trains is at
+pub on_row : (o : Roster) (ts : List Train) (row : ℕ) (t : Train) → RowIs o row (slice_get ts row) → row < length ts → OnRow o row (get_or ts row t)
+on_row o ts row t r h = let e = slice_get-get_or ts row t h in rw e at r
 
 pub chosen_skip : (q : Question) (n : ℕ) (c : Chosen) → ChosenTo q n c → group_of q n ≡ false → ChosenTo q (n + 1) c
 chosen_skip q n c H e = record {
@@ -72,30 +82,23 @@ chosen_more q n c s g H e l8 es eg = record {
         (subst (λ z. P c.trains n s z) (sym o) new)))))
         (cases_lt i c.trains)
 
-pub row_first : (old : List ℕ) (s : ℕ) (plan : List ℕ) (k i : ℕ) → 0 < length old → RowWritten (set old 0 s) (set old 0 s) s plan k i 0
-row_first old s plan k i h = record {
-  here = λ t l. (let e : 0 ≡ t = omega arith in subst (λ u. get_or (set old 0 s) u 0 ≡ planned s plan k i u) e (get_or-set_same old 0 s 0 h));
-  after = λ t l. refl;
+-- a row in which the times up to the last are written over by the line of the i-th of k trains
+pub row_written : (old new : List ℕ) (s : ℕ) (plan : List ℕ) (k i steps : ℕ) → steps ≤ 16
+    → new ≡ take (steps + 1) (map (planned s plan k i) (range_with_len 0 17)) ++ drop (steps + 1) old → RowWritten old new s plan k i steps
+row_written old new s plan k i steps h e = record {
+  here = λ t a. rw e
+      (get_or_append_left (take (steps + 1) line) (drop (steps + 1) old) 0 t (omega (arith, long)) ∙ get_or-take (steps + 1) line t 0 (omega arith)
+      ∙ get_or-map-range_with_len (planned s plan k i) 0 17 t t 0 (omega arith) (omega arith));
+  after = λ t a. rw e
+      (get_or-append_right (take (steps + 1) line) (drop (steps + 1) old) (steps + 1) t 0 long (omega arith) ∙ get_or-drop (steps + 1) old (t - (steps + 1)) 0
+      ∙ ap (λ u. get_or old u 0) (let z : steps + 1 + (t - (steps + 1)) ≡ t = omega arith in z));
 }
+  where
+    line : List ℕ
+    line = map (planned s plan k i) (range_with_len 0 17)
 
-pub row_more : (old row : List ℕ) (s : ℕ) (plan : List ℕ) (k i t : ℕ) → RowWritten old row s plan k i t → t + 1 < length row
-    → RowWritten old (set row (t + 1) (get_or plan (k * t + i) 0)) s plan k i (t + 1)
-row_more old row s plan k i t H l = record {
-  here = λ u h.
-      ⊎_elim
-      (λ m. get_or-set_other row (t + 1) u (get_or plan (k * t + i) 0) 0 (λ z. omega arith) ∙ H.here u (omega arith))
-      (λ m. (let e : t + 1 ≡ u = omega arith in
-      subst (λ z. get_or (set row (t + 1) (get_or plan (k * t + i) 0)) z 0 ≡ planned s plan k i z) e
-      (get_or-set_same row (t + 1) (get_or plan (k * t + i) 0) 0 l ∙ ap (planned s plan k i) (sym (add-one t)))))
-      (cases_lt u (t + 1));
-  after = λ u h. get_or-set_other row (t + 1) u (get_or plan (k * t + i) 0) 0 (λ z. omega arith) ∙ H.after u (omega arith);
-}
-
-pub row_end : (old row : List ℕ) (s : ℕ) (plan : List ℕ) (k i t : ℕ) → RowWritten (set old 0 s) row s plan k i t → RowWritten old row s plan k i t
-row_end old row s plan k i t H = record {
-  here = H.here;
-  after = λ u h. H.after u h ∙ get_or-set_other old 0 u s 0 (λ z. omega arith);
-}
+    long : length (take (steps + 1) line) ≡ steps + 1
+    long = length-take-le (steps + 1) line (let z : length line ≡ 17 = length-map-range_with_len (planned s plan k i) 0 17 in omega arith)
 
 pub written_none : (c : Chosen) (plan : List ℕ) (steps : ℕ) (old : Sheet) → Written c plan steps 0 old old
 written_none c plan steps old = record { here = λ i t h l. absurd (omega arith); others = λ r t h. refl }

@@ -124,6 +124,7 @@ module _ (conflicts : Layout → Conflicts) (q : Question) (c : Chosen) (H : Cho
     -- the plan that was found, once written, is the best sheet
     pub solved_by : (f : Found C) (old new : Sheet) → Solution S task q.steps c.start (Some f) → Written c f.plan q.steps c.trains old new
         → Solved (inquiry conflicts S q) old new f.cost
+    unfolding planned
     solved_by f old new F W =
         let b = (answers S L moving prices full from few).found f.cost (sym (F.cost ∙ rest_is)) in
         let w : best S moving full from ≡ group_word Q c.trains (row_of c) (plan_of new) = sym (word_is f.plan (plan_of new) F.long cells ∙ F.goes ∙ best_is) in

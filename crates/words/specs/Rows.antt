@@ -31,7 +31,7 @@ pub record ChosenTo (q : Question) (n : ℕ) (c : Chosen) : Type 0 where
   pub goals : (i : ℕ) → i < c.trains → slice_index c.goal i ≡ goal_at q.roster.now (row_of c i)
 
 -- where the i-th of k trains is at a time, by its start and the plan
-abbrev pub planned : (start : ℕ) (plan : List ℕ) (k i : ℕ) → ℕ → ℕ
+unfoldable pub planned : (start : ℕ) (plan : List ℕ) (k i : ℕ) → ℕ → ℕ
 planned s plan k i zero = s
 planned s plan k i (suc t) = slice_index plan (k * t + i)
 

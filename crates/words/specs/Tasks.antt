@@ -1,24 +1,22 @@
 -- The task of a group on a layout, and what a search finds for it.
-use Rattle.std.specs.Prelude.{◌≡◌, ℕ, ◌*◌, Bool, cond, not, ◌&&◌, ◌||◌, List, [], length, take, is_some, Some, None, Option, ◌==◌}
-use Rattle.std.specs.Option.{unwrap_or}
+use Rattle.std.specs.Prelude.{◌≡◌, ℕ, ◌*◌, Bool, not, ◌&&◌, ◌||◌, List, [], length, take, is_some, Some, None, Option, ◌==◌}
 use Rattle.track.specs.Layouts.{sections_of, look}
 use Rattle.track.specs.declared.layout.Layout.{Layout}
 use Rattle.roster.specs.Model.{closed_of}
 use Rattle.roster.specs.declared.roster.Roster.{Roster}
+use Rattle.sheets.specs.Inquiry.{over}
 use Rattle.rules.specs.Conflicts.{Conflicts}
 use Rattle.scales.specs.Measure.{Measure}
 use Rattle.words.specs.Words.{rest, best}
 use Rattle.words.specs.Joint.{Task, Joint, process}
+use Rattle.sheets.specs.declared.asked.Asked.{Asked}
 use Rattle.words.specs.declared.board.Board.{Board}
+use Rattle.words.specs.declared.chosen.Chosen.{Chosen}
 use Rattle.words.specs.declared.found.Found.{Found}
 
 -- whether a train in a may stand there or run to b, which is open
 abbrev pub open_to : Layout → Roster → ℕ → ℕ → Bool
 open_to l o a b = (a == b || is_some (look l a b)) && not (closed_of o b)
-
--- the points run over in a move: none when standing
-abbrev pub over : Layout → ℕ → ℕ → ℕ
-over l a b = cond (a == b) 0 (unwrap_or (look l a b) 0)
 
 -- the task of so many trains with these goals
 abbrev pub task_of : Conflicts → Layout → Roster → (trains : ℕ) → (goal : List ℕ) → Task
@@ -27,6 +25,17 @@ task_of conflicts l o k goal = record { sections = sections_of l; trains = k; op
 -- the task that a board stands for, under what its rule means
 abbrev pub task : {S R : Type 0} → (R → Layout → Conflicts) → Board S R → Task
 task conflicts b = task_of (conflicts b.rule.now b.layout.now) b.layout.now b.roster.now b.trains b.goal
+
+-- the board has what is asked of the rows that are chosen
+pub record BoardOf {S R : Type 0} (a : Asked R S) (c : Chosen) (b : Board S R) : Type 0 where
+  pub scale : b.scale.now ≡ a.scale.now
+  pub rule : b.rule.now ≡ a.rule.now
+  pub layout : b.layout.now ≡ a.question.now.layout.now
+  pub roster : b.roster.now ≡ a.question.now.roster.now
+  pub trains : b.trains ≡ c.trains
+  pub start : b.start ≡ c.start
+  pub goal : b.goal ≡ c.goal
+  pub steps : b.steps ≡ a.question.now.steps
 
 abbrev pub cost_of : {C : Type 0} → Option (Found C) → Option C
 cost_of None = None
@@ -46,3 +55,9 @@ pub record Solution {C : Type 0} (S : Measure C) (K : Task) (steps : ℕ) (start
   pub cost : cost_of r ≡ rest S (process S K) (K.trains * steps) (begin K start)
   pub goes : Goes r (λ plan. take (K.trains * steps) plan ≡ best S (process S K) (K.trains * steps) (begin K start))
   pub long : Goes r (λ plan. length plan ≡ 128)
+
+-- what is found solves what is asked of the rows that are chosen
+abbrev pub FoundFor : {S R C : Type 0} → (R → Layout → Conflicts) → (S → Measure C) → Asked R S → Chosen → Option (Found C) → Type 0
+FoundFor conflicts measure a c r =
+    Solution (measure a.scale.now) (task_of (conflicts a.rule.now a.question.now.layout.now) a.question.now.layout.now a.question.now.roster.now c.trains c.goal)
+    a.question.now.steps c.start r

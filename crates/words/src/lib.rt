@@ -5,6 +5,5 @@ pub mod board;
 pub mod choose;
 pub mod chosen;
 pub mod found;
-pub mod moves;
 pub mod rests;
 pub mod written;

@@ -1,37 +1,74 @@
-ghost use Rattle.std.specs.Prelude.{◌≡◌, ℕ, ◌+◌, ◌*◌, ◌<◌, ◌≤◌};
-ghost use Rattle.words.specs.Rows.{RowWritten, Written, Rows};
+ghost use Rattle.std.specs.Prelude.{◌≡◌, ◌+◌, ◌<◌, ◌≤◌, ◌++◌, take, drop, map};
+ghost use Rattle.std.specs.List.{range_with_len};
+ghost use Rattle.roster.specs.Model.{rows_of};
+ghost use Rattle.sheets.specs.Inquiry.{inquired};
+ghost use Rattle.search.specs.Answers.{Answered};
+ghost use Rattle.words.specs.Rows.{ChosenTo, Rows, Written, planned};
+ghost use Rattle.words.specs.Tasks.{FoundFor};
 
 use crate::chosen::Chosen;
+use crate::found::Found;
+use rules::rule::Rule;
+use scales::scale::Scale;
+use search::answer::{Answer, Unplanned};
+use sheets::asked::Asked;
 use sheets::sheet::Sheet;
+use std::array;
 
-// A row with the sections of the i-th of k trains at times 0 to `steps`.
-fn row_of(old: [u8; 17], start: u8, plan: [u8; 128], k: usize, i: usize, steps: usize) -> [u8; 17]
-    requires { (i < k) × ((k ≤ 8) × (steps ≤ 16)) }
-    ensures the_plan_is_written_in_the_row { RowWritten old result start plan k i steps }
+// Where the i-th of k trains is at the time t, by its start and the plan.
+#[tactic(auto, unfolding(crate::specs::Rows::planned))]
+fn planned(start: u8, plan: &[u8; 128], k: usize, i: usize, t: usize) -> u8
+    requires of_the_trains { i < k }
+    requires few { k ≤ 8 }
+    requires in_time { t ≤ 16 }
+    ensures the_start_and_then_as_planned { result ≡ planned start plan.now k i t }
+{
+    if t == 0 { start } else { plan[k * (t - 1) + i] }
+}
+
+// Where the i-th of k trains is at each time.
+fn line_of(start: u8, plan: &[u8; 128], k: usize, i: usize) -> [u8; 17]
+    requires of_the_trains { i < k }
+    requires few { k ≤ 8 }
+    ensures its_section_at_each_time { result ≡ map (planned start plan.now k i) (range_with_len 0 17) }
+{
+    array::from_fn(|t| planned(start, plan, k, i, t))
+}
+
+// The line up to a time, and the old row after it.
+fn up_to(last: usize, line: [u8; 17], old: [u8; 17]) -> [u8; 17]
+    requires { last ≤ 16 }
+    ensures the_line_and_then_the_old_row { result ≡ take (last + 1) line ++ drop (last + 1) old }
 {
     let mut row = old;
-    row[0] = start;
-    for t in 0..steps {
-        row[t + 1] = plan[k * t + i];
-    }
+    row[..=last].copy_from_slice(&line[..=last]);
     row
 }
 
 // Writes the plan into the group's rows.
-pub fn write(sheet: &mut Sheet, chosen: Chosen, plan: [u8; 128], steps: usize)
-    requires rows { Rows chosen }
+pub fn write(sheet: &mut Sheet, chosen: &Chosen, plan: &[u8; 128], steps: usize)
+    requires rows { Rows chosen.now }
     requires few { steps ≤ 16 }
-    ensures the_plan_and_nothing_else_is_written { Written chosen plan steps chosen.trains sheet.old sheet.new }
+    ensures the_plan_and_nothing_else_is_written { Written chosen.now plan.now steps chosen.now.trains sheet.old sheet.new }
 {
-    for i in 0..chosen.trains {
-        let r = chosen.row[i] as usize;
-        sheet.rows[r] = row_of(
-            sheet.rows[r],
-            chosen.start[i],
-            plan,
-            chosen.trains,
-            i,
-            steps,
-        );
+    for (i, &row) in chosen.row[..chosen.trains].iter().enumerate() {
+        let line = line_of(chosen.start[i], plan, chosen.trains, i);
+        sheet.rows[row] = up_to(steps, line, sheet.rows[row]);
     }
+}
+
+// What a search answers of a group that it takes: the cost of the best sheet, which is written, or that there is none.
+pub fn answer<S: Scale, R: Rule>(
+    asked: &Asked<R, S>,
+    chosen: &Chosen,
+    found: Option<Found<S::Cost>>,
+    sheet: &mut Sheet,
+) -> Answer<S::Cost>
+    requires chosen { ChosenTo asked.now.question.now (rows_of asked.now.question.now.roster.now) chosen.now }
+    requires solved { FoundFor R.Rule.conflicts S.Scale.measure asked.now chosen.now found }
+    ensures the_answer_is_right { Answered (inquired R.Rule.conflicts S.Scale.measure asked.now) (Unit {0}) sheet.old sheet.new result }
+{
+    let found = found.ok_or(Unplanned::NoSheet)?;
+    write(sheet, chosen, &found.plan, asked.question.steps);
+    Ok(found.cost)
 }

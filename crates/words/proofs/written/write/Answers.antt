@@ -1,17 +1,18 @@
-use Rattle.std.proofs.Common.{◌≡◌, ◌<◌, length, get_or, subst, arith, rules}
-use Rattle.words.specs.Rows.{Written}
-use Rattle.words.proofs.RowProofs.{written_none, written_more}
+use Rattle.std.proofs.Common.{◌<◌, get_or-take, rules}
+use Rattle.words.proofs.RowProofs.{row_written, written_none, written_more}
 use Rattle.words.proofs.written.write.Goals as goal
 
 pub loop-i-init : goal.loop-i-init
-loop-i-init c = written_none c.args.chosen c.args.plan c.args.steps c.args.sheet.now
+loop-i-init c = written_none c.args.chosen.now c.args.plan.now c.args.steps c.args.sheet.now
 
 pub loop-i-preserved : goal.loop-i-preserved
 loop-i-preserved c =
-    let l : get_or c.args.chosen.row c.loop-i.i 0 < length c.loop-i.sheet.rows = search rules in
-    written_more c.args.chosen c.args.plan c.args.steps c.loop-i.i c.args.sheet.now c.loop-i.sheet c.row_of.result c.requires.rows c.loop-i-test.true c.loop-i.invariant c.row_of.ensures.the_plan_is_written_in_the_row l
-
-pub returns : goal.returns
-returns c =
-    let e : c.loop-i.i ≡ c.args.chosen.trains = omega (arith, c.loop-i-test.false, c.loop-i.auto) in
-    record { the_plan_and_nothing_else_is_written = subst (λ n. Written c.args.chosen c.args.plan c.args.steps n c.args.sheet.now c.loop-i.sheet) e c.loop-i.invariant }
+    let a = c.args in
+    let d = a.chosen.now in
+    let i = c.loop-i.i in
+    let h : i < d.trains = search rules in
+    let e = get_or-take d.trains d.row i 0 h in
+    let r = rw (c.line_of-line.ensures.its_section_at_each_time, e) at c.up_to.ensures.the_line_and_then_the_old_row in
+    rw e (written_more d a.plan.now a.steps i a.sheet.now c.loop-i.sheet c.up_to.result c.requires.rows h c.loop-i.invariant
+    (row_written _ c.up_to.result _ a.plan.now d.trains i a.steps c.requires.few r)
+    (search rules))

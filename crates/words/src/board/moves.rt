@@ -1,0 +1,57 @@
+ghost use Rattle.std.specs.Prelude.{◌≡◌, ◌<◌, true, not, take};
+ghost use Rattle.std.specs.List.{list_all, zip};
+ghost use Rattle.words.specs.Joint.{may_move, move_price, home};
+ghost use Rattle.words.specs.Tasks.{task, open_to};
+
+use crate::board::Board;
+use rules::moves::Move;
+use rules::rule::Rule;
+use scales::scale::Scale;
+use sheets::price::run_over;
+
+impl<'a, S, R> Board<'a, S, R> {
+    // Whether a train in a may stand there or run to b, which is open.
+    fn open_to(&self, a: u8, b: u8) -> bool
+        ensures whether_the_move_is_open { result ≡ open_to self.now.layout.now self.now.roster.now a b }
+    {
+        let linked = self.layout.points(a, b).is_some();
+        ((a == b) | linked) & !self.roster.is_closed(b)
+    }
+
+    // Whether every train stands at its goal.
+    #[tactic(auto, using(crate::proofs::Pairs::all_pointwise))]
+    pub fn all_home(&self, at: [u8; 8]) -> bool
+        ensures whether_every_train_is_at_its_goal { result ≡ home (task (λ _ _ _ _ _ _. true) self.now) (take self.now.trains at) }
+    {
+        at[..self.trains] == self.goal[..self.trains]
+    }
+}
+
+impl<'a, S, R: Rule> Board<'a, S, R> {
+    // Whether none of the moves made already, each from one of these sections to the other beside it, conflicts with the next.
+    fn clear_of(&self, from: &[u8], to: &[u8], next: Move) -> bool
+        ensures whether_none_conflicts { result ≡ list_all (λ m. not (R.Rule.conflicts self.now.rule.now self.now.layout.now m.0 m.1 next.from next.to)) (zip from.now to.now) }
+    {
+        from.iter().zip(to).all(|(&a, &b)| !self.rule.conflict(self.layout, Move::new(a, b), next))
+    }
+
+    // Whether the train j, from where it stands, may go to x beside the moves of the trains before it.
+    pub fn may_move(&self, at: [u8; 8], to: [u8; 8], j: usize, x: u8) -> bool
+        requires { j < 8 }
+        ensures whether_the_move_is_open_and_meets_no_conflict { result ≡ may_move (task R.Rule.conflicts self.now) at to j x }
+    {
+        self.open_to(at[j], x) && self.clear_of(&at[..j], &to[..j], Move::new(at[j], x))
+    }
+}
+
+impl<'a, S: Scale, R> Board<'a, S, R> {
+    // The price of the move of the train j to x.
+    pub fn move_price(&self, at: [u8; 8], j: usize, x: u8) -> S::Cost
+        requires { j < self.now.trains }
+        ensures the_price_of_the_move { result ≡ move_price (S.Scale.measure self.now.scale.now) (task (λ _ _ _ _ _ _. true) self.now) at j x }
+    {
+        let goal = self.goal[j];
+        let points = run_over(self.layout, at[j], x);
+        self.scale.price(points, (at[j] == goal) & (x == goal))
+    }
+}
