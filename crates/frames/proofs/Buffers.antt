@@ -1,32 +1,22 @@
--- Filling the bytes of a line, one more.
-use Rattle.std.proofs.Common.{◌≡◌, ℕ, ◌+◌, ◌<◌, List, [], ◌∷◌, ◌++◌, map, length, get_or, take, set, sym, ap, ◌∙◌, arith}
-use Rattle.std.specs.List.{range_with_len}
-use Rattle.std.proofs.lemmas.List.FromFn.{map-range_with_len_more}
-use Rattle.std.proofs.lemmas.List.{take_more, take_more_set}
+-- The front of the bytes of a line.
+use Rattle.std.proofs.Common.{◌≡◌, ℕ, suc, ◌+◌, ◌<◌, ◌≤◌, List, [], ◌∷◌, ◌++◌, length, get_or, take, set, ap, ◌∙◌, arith}
+use Rattle.std.proofs.lemmas.List.FromFn.{fill_by_all}
+use Rattle.std.proofs.lemmas.List.{take_more_set, take-append-le, get_or-take, length-take-le, length-append}
 use Rattle.scales.specs.Bytes.{high_first}
+use Rattle.frames.specs.Replies.{train_bytes, total_bytes}
 
--- one more behind k bytes
-stored : (xs : List ℕ) (k i y : ℕ) → k + i < length xs → take (k + (i + 1)) (set xs (k + i) y) ≡ take (k + i) xs ++ (y ∷ [])
-stored xs k i y h =
-    let e : k + (i + 1) ≡ k + i + 1 = omega arith in
-    ap (λ (n : ℕ). take n (set xs (k + i) y)) e ∙ take_more_set xs (k + i) y h
+pub train_front : (number : ℕ) (xs : List ℕ) (steps : ℕ) → steps < length xs → take (4 + steps) (16 ∷ (high_first number ++ xs)) ≡ train_bytes number (λ t. get_or xs t 0) steps
+train_front number xs steps h =
+    let n : 4 + steps ≡ suc (suc (suc (steps + 1))) = omega arith in
+    ap (λ (k : ℕ). take k (16 ∷ (high_first number ++ xs))) n
+    ∙ ap (λ (zs : List ℕ). 16 ∷ (high_first number ++ zs)) (fill_by_all (λ t. get_or xs t 0) (take (steps + 1) xs) (steps + 1) 0 (length-take-le (steps + 1) xs (omega arith)) (λ k l. get_or-take (steps + 1) xs k 0 l))
 
-pub train_more : (xs : List ℕ) (number : ℕ) (f : ℕ → ℕ) (time : ℕ) → 3 + time < length xs → take (3 + time) xs ≡ 16 ∷ (high_first number ++ map f (range_with_len 0 time))
-    → take (3 + (time + 1)) (set xs (3 + time) (f time)) ≡ 16 ∷ (high_first number ++ map f (range_with_len 0 (time + 1)))
-train_more xs number f time h e =
-    stored xs 3 time (f time) h
-    ∙ ap (λ (zs : List ℕ). zs ++ (f time ∷ [])) e
-    ∙ ap (λ (zs : List ℕ). 16 ∷ (high_first number ++ zs)) (sym (map-range_with_len_more f 0 time time (omega arith)))
-
-pub cost_more : (xs cost : List ℕ) (i : ℕ) → 1 + i < length xs → i < length cost → take (1 + i) xs ≡ 17 ∷ take i cost
-    → take (1 + (i + 1)) (set xs (1 + i) (get_or cost i 0)) ≡ 17 ∷ take (i + 1) cost
-cost_more xs cost i h k e =
-    stored xs 1 i (get_or cost i 0) h
-    ∙ ap (λ (zs : List ℕ). zs ++ (get_or cost i 0 ∷ [])) e
-    ∙ ap (λ (zs : List ℕ). 17 ∷ zs) (sym (take_more cost i 0 k))
-
-pub total_all : (xs cost : List ℕ) (i groups : ℕ) → 1 + i < length xs → take (1 + i) xs ≡ 17 ∷ take i cost
-    → take (i + 2) (set xs (1 + i) groups) ≡ 17 ∷ (take i cost ++ (groups ∷ []))
-total_all xs cost i groups h e =
-    let f : i + 2 ≡ 1 + (i + 1) = omega arith in
-    ap (λ (n : ℕ). take n (set xs (1 + i) groups)) f ∙ stored xs 1 i groups h ∙ ap (λ (zs : List ℕ). zs ++ (groups ∷ [])) e
+pub total_front : (cost : List ℕ) (width groups : ℕ) → width ≤ length cost → take (width + 2) (set (17 ∷ (cost ++ (0 ∷ []))) (1 + width) groups) ≡ total_bytes (take width cost) groups
+total_front cost width groups h =
+    let xs = 17 ∷ (cost ++ (0 ∷ [])) in
+    let one : 1 + width ≡ suc width = omega arith in
+    let n : width + 2 ≡ 1 + width + 1 = omega arith in
+    ap (λ (k : ℕ). take k (set xs (1 + width) groups)) n
+    ∙ take_more_set xs (1 + width) groups (omega (arith, length-append cost (0 ∷ [])))
+    ∙ ap (λ (k : ℕ). take k xs ++ (groups ∷ [])) one
+    ∙ ap (λ (zs : List ℕ). 17 ∷ (zs ++ (groups ∷ []))) (take-append-le width cost (0 ∷ []) h)

@@ -1,8 +1,7 @@
 -- The lines that bytes give, in any pieces; and a line of which the first 65 bytes are held.
-use Rattle.std.proofs.Common.{◌≡◌, ℕ, zero, suc, ◌+◌, ◌<◌, ◌≤◌, Bool, true, false, cond, not, eqb, ltb, List, [], ◌∷◌, ◌++◌, map, length, take, set, Some, Err, Option, sym, refl, ap, ◌∙◌, ap₂, ⊎_elim, arith}
+use Rattle.std.proofs.Common.{◌≡◌, ℕ, zero, suc, ◌+◌, ◌<◌, ◌≤◌, Bool, true, false, cond, eqb, List, [], ◌∷◌, ◌++◌, map, length, take, set, Some, Err, Option, sym, refl, ap, ◌∙◌, ap₂, ⊎_elim, arith}
 use Rattle.std.proofs.lemmas.List.{length-take, length-append, take_all, take-append-le, take_more_set}
 use Rattle.std.proofs.lemmas.Bool.{cases_lt, cond-true, cond-false, lt-ltb, eq-eqb, ne_eqb}
-use Rattle.std.proofs.lemmas.Bool.Decides.{nat_tests}
 use Rattle.track.specs.declared.refusal.Refusal.TheVariants.{NotPairsOfDigits}
 use Rattle.frames.specs.Lines.{fault_of, bytes_of}
 use Rattle.frames.specs.Frames.{unless, by_kind, read_as}
@@ -86,8 +85,9 @@ clipped_reads_the_same = clipped
 
 -- one byte more
 
-pub full : (held : List ℕ) (x : ℕ) → length held ≡ 65 → take 65 held ≡ take 65 (take 65 held ++ (x ∷ []))
-full held x h = sym (clip 65 held (x ∷ []) ∙ take-append-le 65 held (x ∷ []) (omega arith))
+pub full : (held : List ℕ) (n x : ℕ) → n ≡ 65 → length held ≡ 65 → take 65 held ≡ take 65 (take n held ++ (x ∷ []))
+full held n x e h =
+    sym (ap (λ (k : ℕ). take 65 (take k held ++ (x ∷ []))) e ∙ clip 65 held (x ∷ []) ∙ take-append-le 65 held (x ∷ []) (omega arith))
 
 pub stored : (held : List ℕ) (n x : ℕ) → n < 65 → length held ≡ 65 → take (n + 1) (set held n x) ≡ take 65 (take n held ++ (x ∷ []))
 stored held n x h k =
@@ -105,13 +105,3 @@ ends s x line h e = ap (λ (l : List ℕ). cut l true) e ∙ sym (ap (λ (t : Bo
 pub goes_on : (s : Cut) (x : ℕ) (line : List ℕ) → (x ≡ 10 → ⊥) → line ≡ begun_of s → cut (take 65 (line ++ (x ∷ []))) false ≡ after s x
 unfolding stepped
 goes_on s x line h e = ap (λ (l : List ℕ). cut (take 65 (l ++ (x ∷ []))) false) e ∙ sym (ap (λ (t : Bool). stepped t s x) (ne_eqb x 10 h))
-
-pub none_behind : (t : Bool) (line : List ℕ) → t ≡ true → not t ≡ not (eqb (length (begun_of (cut line t))) 0)
-none_behind t line e = ap not e ∙ sym (ap (λ (b : Bool). not (eqb (length (begun_of (cut line b))) 0)) e)
-
-some_length : (n : ℕ) → ltb 0 n ≡ not (eqb n 0)
-some_length n = grind (arith, nat_tests)
-
-pub some_begun : (t : Bool) (xs line : List ℕ) → t ≡ false → xs ≡ line → ltb 0 (length xs) ≡ not (eqb (length (begun_of (cut line t))) 0)
-some_begun t xs line h e =
-    some_length (length xs) ∙ ap (λ (z : List ℕ). not (eqb (length z) 0)) e ∙ sym (ap (λ (b : Bool). not (eqb (length (begun_of (cut line b))) 0)) h)

@@ -1,7 +1,7 @@
 -- A line, byte by byte.
 use Rattle.std.proofs.Common.{◌≡◌, ℕ, zero, suc, ◌+◌, ◌*◌, ◌/◌, ◌%◌, ◌<◌, List, [], ◌∷◌, ◌++◌, length, get_or, take, sym, refl, ap, ◌∙◌, arith}
 use Rattle.std.specs.List.{AllByRecursion}
-use Rattle.frames.specs.Text.{digit_of, chars_of, line_of}
+use Rattle.frames.specs.Text.{digit_of, trio, chars_of, line_of}
 
 pub length_line_of : (bs : List ℕ) → 0 < length bs → length (line_of bs) ≡ 3 * length bs
 unfolding chars_of line_of
@@ -10,10 +10,6 @@ length_line_of (b ∷ []) h = refl
 length_line_of (b ∷ (c ∷ bs)) h =
     let ih : length (chars_of (c ∷ bs) ++ (10 ∷ [])) ≡ 3 * length (c ∷ bs) = length_line_of (c ∷ bs) (omega arith) in
     omega arith
-
--- the two digits of a byte, and what stands behind them
-abbrev pub trio : (byte behind : ℕ) → List ℕ
-trio byte behind = digit_of (byte / 16) ∷ (digit_of (byte % 16) ∷ (behind ∷ []))
 
 pub line_more : (bs : List ℕ) (i s : ℕ) → i < length bs → (i + 1 ≡ length bs → s ≡ 10) → ((i + 1 ≡ length bs → ⊥) → s ≡ 32) → take (3 * (i + 1)) (line_of bs) ≡ take (3 * i) (line_of bs) ++ trio (get_or bs i 0) s
 unfolding chars_of line_of

@@ -1,20 +1,25 @@
--- The first wrong place, one byte more and at the end.
-use Rattle.std.proofs.Common.{◌≡◌, ℕ, ◌+◌, ◌%◌, ◌<◌, ◌≤◌, true, false, cond, eqb, List, length, get_or, drop, Some, None, sym, ◌∙◌}
-use Rattle.std.proofs.lemmas.List.{at_drop_more, at_drop_all}
-use Rattle.std.proofs.lemmas.Bool.{cond-true, cond-false}
+-- The first wrong place of a line, by how many bytes from its start may stand where they do.
+use Rattle.std.proofs.Common.{◌≡◌, ℕ, ◌+◌, ◌<◌, Bool, true, false, cond, List, [], ◌∷◌, length, Some, ap, ◌∙◌, arith}
+use Rattle.std.specs.List.{prefix_len, enumerate_from}
 use Rattle.frames.specs.Lines.{right, fault_from}
 
-module _ (xs : List ℕ) (i : ℕ) (h : i < length xs) where
-  opened : fault_from i (drop i xs) ≡ cond (right i (get_or xs i 0)) (fault_from (i + 1) (drop (i + 1) xs)) (Some i)
-  unfolding fault_from
-  opened = at_drop_more (fault_from i) xs i 0 h
+abbrev from_start : ℕ → List ℕ → ℕ
+from_start i xs = prefix_len (λ p. right p.0 p.1) (enumerate_from i xs)
 
-  pub wrong_here : right i (get_or xs i 0) ≡ false → fault_from i (drop i xs) ≡ Some i
-  wrong_here e = opened ∙ cond-false _ _ _ e
-
-  pub right_here : right i (get_or xs i 0) ≡ true → fault_from i (drop i xs) ≡ fault_from (i + 1) (drop (i + 1) xs)
-  right_here e = opened ∙ cond-true _ _ _ e
-
-pub ended : (xs : List ℕ) (i : ℕ) → fault_from i (drop i xs) ≡ fault_from 0 xs → length xs ≤ i → cond (eqb (i % 3) 2) None (Some i) ≡ fault_from 0 xs
+pub right_to_the_end : (i : ℕ) (xs : List ℕ) → prefix_len (λ p. right p.0 p.1) (enumerate_from i xs) ≡ length xs → fault_from i xs ≡ fault_from (i + length xs) []
 unfolding fault_from
-ended xs i inv le = sym (at_drop_all (fault_from i) xs i le) ∙ inv
+right_to_the_end i [] h = ap (λ (k : ℕ). fault_from k []) (omega arith)
+right_to_the_end i (x ∷ xs) h = go (right_to_the_end (i + 1) xs) (right i x) h
+  where
+    go : (from_start (i + 1) xs ≡ length xs → fault_from (i + 1) xs ≡ fault_from (i + 1 + length xs) []) → (b : Bool) → cond b (1 + from_start (i + 1) xs) 0 ≡ length (x ∷ xs) → cond b (fault_from (i + 1) xs) (Some i) ≡ fault_from (i + length (x ∷ xs)) []
+    go ih true h = ih (omega arith) ∙ ap (λ (k : ℕ). fault_from k []) (omega arith)
+    go ih false h = absurd (omega arith)
+
+pub wrong_there : (i : ℕ) (xs : List ℕ) → prefix_len (λ p. right p.0 p.1) (enumerate_from i xs) < length xs → fault_from i xs ≡ Some (i + prefix_len (λ p. right p.0 p.1) (enumerate_from i xs))
+unfolding fault_from
+wrong_there i [] h = absurd (omega arith)
+wrong_there i (x ∷ xs) h = go (wrong_there (i + 1) xs) (right i x) h
+  where
+    go : (from_start (i + 1) xs < length xs → fault_from (i + 1) xs ≡ Some (i + 1 + from_start (i + 1) xs)) → (b : Bool) → cond b (1 + from_start (i + 1) xs) 0 < length (x ∷ xs) → cond b (fault_from (i + 1) xs) (Some i) ≡ Some (i + cond b (1 + from_start (i + 1) xs) 0)
+    go ih true h = ih (omega arith) ∙ ap Some (omega arith)
+    go ih false h = ap Some (omega arith)

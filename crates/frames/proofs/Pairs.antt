@@ -1,5 +1,6 @@
 -- The bytes that a line writes, by places of the line.
-use Rattle.std.proofs.Common.{◌≡◌, ℕ, zero, suc, ◌+◌, ◌*◌, ◌/◌, ◌<◌, List, [], ◌∷◌, length, get_or, sym, refl, ap, ◌∙◌, ap₂, arith}
+use Rattle.std.proofs.Common.{◌≡◌, ℕ, zero, suc, ◌+◌, ◌*◌, ◌/◌, ◌<◌, ◌≤◌, List, [], ◌∷◌, length, get_or, sym, refl, ap, ◌∙◌, ap₂, arith}
+use Rattle.std.proofs.lemmas.List.{get_or_past}
 use Rattle.frames.specs.Lines.{pair_value, bytes_of}
 
 pub length_bytes_of : (xs : List ℕ) → length (bytes_of xs) ≡ (length xs + 1) / 3
@@ -25,3 +26,6 @@ byte_here (a ∷ (b ∷ [])) (suc i) h = absurd (omega arith)
 byte_here (a ∷ (b ∷ (s ∷ xs))) zero h = refl
 byte_here (a ∷ (b ∷ (s ∷ xs))) (suc i) h =
     byte_here xs i (omega arith) ∙ ap₂ pair_value (sym (here a b s xs i)) (sym (on a b s xs i 1))
+
+pub none_there : (xs : List ℕ) (i : ℕ) → length xs ≤ 3 * i + 1 → get_or (bytes_of xs) i 0 ≡ 0
+none_there xs i h = get_or_past (bytes_of xs) i 0 (omega (arith, length_bytes_of xs))

@@ -54,9 +54,10 @@ module _ (xs : List ℕ) (kind : ℕ) (sound : fault_of xs ≡ None) (first : ki
   pub of_no_size : (size_of kind ≡ (length xs + 1) / 3 → ⊥) → Err UnknownFrame ≡ read_as xs
   of_no_size h = sym (passed ∙ cond-false _ _ _ (ne_eqb _ _ (λ e. h (ap size_of first ∙ e ∙ length_bytes_of xs))))
 
-  pub of_its_size : (digits : List ℕ) (place : ℕ) → size_of kind ≡ (length xs + 1) / 3 → digits ≡ drop (place_of xs) xs → place ≡ place_of xs
-      → cond (eqb (size_of kind) 0) (Err UnknownFrame) (Ok (kind, digits, place)) ≡ read_as xs
+  pub of_no_kind : size_of kind ≡ 0 → Err UnknownFrame ≡ read_as xs
+  of_no_kind h = let n = two_at_least xs (no_wrong_place xs sound) in of_no_size (λ e. omega arith)
+
+  pub of_its_size : (digits : List ℕ) (place : ℕ) → size_of kind ≡ (length xs + 1) / 3 → digits ≡ drop (place_of xs) xs → place ≡ place_of xs → Ok (kind, digits, place) ≡ read_as xs
   of_its_size digits place size d p =
-      let n = two_at_least xs (no_wrong_place xs sound) in
       let same : ◌≡◌ {A = Told} (kind, digits, place) (get_or (bytes_of xs) 0 0, drop (place_of xs) xs, place_of xs) = λ i. (first i, d i, p i) in
-      cond-false _ _ _ (ne_eqb _ _ (λ (e : size_of kind ≡ 0). omega arith)) ∙ ap Ok same ∙ sym (passed ∙ cond-true _ _ _ (eq-eqb _ _ (sym (ap size_of first) ∙ size ∙ sym (length_bytes_of xs))))
+      ap Ok same ∙ sym (passed ∙ cond-true _ _ _ (eq-eqb _ _ (sym (ap size_of first) ∙ size ∙ sym (length_bytes_of xs))))

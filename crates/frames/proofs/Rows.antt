@@ -1,6 +1,6 @@
 -- The lines of the trains, one more, and how long they are.
-use Rattle.std.proofs.Common.{◌≡◌, ℕ, zero, suc, ◌+◌, ◌*◌, ◌<◌, ◌≤◌, min, List, [], ◌∷◌, ◌++◌, map, length, get_or, Some, None, sym, refl, ap, ◌∙◌, subst, mul-le-mul_right, add-mul, arith}
-use Rattle.std.specs.List.{range_with_len, slice_get, flat_map, AllByRecursion}
+use Rattle.std.proofs.Common.{◌≡◌, ℕ, ◌+◌, ◌*◌, min, List, [], ◌∷◌, ◌++◌, map, length, sym, refl, ap, ◌∙◌, subst, add-mul, arith}
+use Rattle.std.specs.List.{range_with_len, flat_map, AllByRecursion}
 use Rattle.std.proofs.lemmas.List.FromFn.{length-range_with_len, length-map-range_with_len, map-range_with_len_more}
 use Rattle.std.proofs.ByRecursion.{All-push}
 use Rattle.std.proofs.lemmas.List.{flat_map_more, length-append}
@@ -12,16 +12,6 @@ use Rattle.frames.specs.Text.{line_of, text, written, ReadsBack}
 use Rattle.frames.specs.Replies.{train_bytes, total_bytes, number_at, train_lines, plan_lines}
 use Rattle.frames.proofs.Writing.{written_behind}
 use Rattle.frames.proofs.Ended.{length_line_of}
-
-pub nth_some : {X : Type 0} (xs : List X) (i : ℕ) (x d : X) → Some x ≡ slice_get xs i → x ≡ get_or xs i d
-nth_some [] i x d h = absurd (let z : ◌≡◌ {A = ℕ} 0 1 = cc in omega arith)
-nth_some (y ∷ xs) zero x d h = cc
-nth_some (y ∷ xs) (suc i) x d h = nth_some xs i x d h
-
-pub nth_none : {X : Type 0} (xs : List X) (i : ℕ) (d : X) → None ≡ slice_get xs i → d ≡ get_or xs i d
-nth_none [] i d h = refl
-nth_none (y ∷ xs) zero d h = absurd (let z : ◌≡◌ {A = ℕ} 0 1 = cc in omega arith)
-nth_none (y ∷ xs) (suc i) d h = nth_none xs i d h
 
 pub text_more : (lines : List (List ℕ)) (bytes : List ℕ) → text (lines ++ (bytes ∷ [])) ≡ text lines ++ line_of bytes
 text_more lines bytes = sym (flat_map_more line_of [] lines bytes)
@@ -56,14 +46,6 @@ unfolding train_lines
 length_trains o s steps rows =
     length_joined (λ k. train_bytes (number_at o k) (plan_of s k) steps) (3 * (4 + steps)) (range_with_len 0 rows) (λ k. let n = length_train (number_at o k) (plan_of s k) steps in length_line_of _ (omega arith) ∙ ap (λ (z : ℕ). 3 * z) n)
     ∙ ap (λ (z : ℕ). z * (3 * (4 + steps))) (length-range_with_len 0 rows)
-
--- there is room for one more row
-pub room : (row rows size left : ℕ) → row < rows → rows * size ≤ left → row * size + size ≤ left
-room row rows size left h k =
-    omega (arith, mul-le-mul_right size (row_next row rows h), add-mul row 1 size)
-  where
-    row_next : (row rows : ℕ) → row < rows → row + 1 ≤ rows
-    row_next row rows h = omega arith
 
 -- a plan, by the last time that is printed, the number of trains and the number of the cost's bytes
 module _ (o : Roster) (s : Sheet) (steps : ℕ) (cost : List ℕ) (groups last count width : ℕ) (capped : last ≡ min steps 16) (rows : count ≡ rows_of o) (wide : width ≡ length cost) where

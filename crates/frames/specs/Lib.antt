@@ -1,4 +1,5 @@
 pub mod Lines
+pub mod Kinds
 pub mod Frames
 pub mod Text
 pub mod Replies

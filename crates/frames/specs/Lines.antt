@@ -1,13 +1,16 @@
 -- A line writes bytes: each as two upper-case hexadecimal digits, one space between two of them. It holds 1 to 64 characters, the ending 0A not counted.
-use Rattle.std.specs.Prelude.{ℕ, ◌+◌, ◌-◌, ◌*◌, ◌%◌, min, Bool, cond, ◌&&◌, ◌||◌, List, [], ◌∷◌, length, Some, None, Option, ◌==◌, nat_le, nat_lt}
+use Rattle.std.specs.Prelude.{ℕ, ◌+◌, ◌-◌, ◌*◌, ◌%◌, min, Bool, cond, ◌&&◌, List, [], ◌∷◌, length, Some, None, Option, is_some, unwrap_or, ◌==◌, nat_le, nat_lt}
 
--- 0 to 9 and A to F
+-- what a digit stands for: 0 to 9 and A to F
+abbrev pub value_of : ℕ → Option ℕ
+value_of x = cond (nat_le 48 x && nat_le x 57) (Some (x - 48)) (cond (nat_le 65 x && nat_le x 70) (Some (x - 55)) None)
+
 abbrev pub digit : ℕ → Bool
-digit x = (nat_le 48 x && nat_le x 57) || (nat_le 65 x && nat_le x 70)
+digit x = is_some (value_of x)
 
--- what a digit stands for; what is no digit counts 0
+-- what is no digit counts 0
 abbrev pub digit_value : ℕ → ℕ
-digit_value x = cond (nat_le 48 x && nat_le x 57) (x - 48) (cond (nat_le 65 x && nat_le x 70) (x - 55) 0)
+digit_value x = unwrap_or (value_of x) 0
 
 -- the byte that two digits write
 abbrev pub pair_value : (high low : ℕ) → ℕ

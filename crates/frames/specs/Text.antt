@@ -9,6 +9,10 @@ use Rattle.frames.specs.Lines.{fault_of, bytes_of}
 abbrev pub digit_of : ℕ → ℕ
 digit_of d = cond (nat_lt d 10) (d + 48) (d + 55)
 
+-- the two digits of a byte, and what stands behind them
+abbrev pub trio : (byte behind : ℕ) → List ℕ
+trio byte behind = digit_of (byte / 16) ∷ (digit_of (byte % 16) ∷ (behind ∷ []))
+
 -- the characters that write bytes: two digits for each, one space between two bytes
 unfoldable pub chars_of : List ℕ → List ℕ
 chars_of [] = []

@@ -5,6 +5,7 @@ use crate::digits::pair_value;
 use crate::part::Part;
 
 // The byte with the index `i` of those that a line writes, 0 where there is none.
+#[tactic(auto, using(crate::proofs::Pairs::byte_here, crate::proofs::Pairs::none_there))]
 pub(crate) fn byte_at(line: &[u8], i: usize) -> u8
     requires { i ≤ 256 }
     ensures the_byte_or_zero { result ≡ slice_index (bytes_of line.now) i }
@@ -30,8 +31,6 @@ impl Part<'_> {
         ensures two_bytes_the_high_one_first { result ≡ slice_index (bytes_of self.now.digits.now) i * 256 + slice_index (bytes_of self.now.digits.now) (i + 1) }
     {
         let at = usize::from(i);
-        let high = byte_at(self.digits, at);
-        let low = byte_at(self.digits, at + 1);
-        u16::from(high) * 256 + u16::from(low)
+        u16::from_be_bytes([byte_at(self.digits, at), byte_at(self.digits, at + 1)])
     }
 }

@@ -5,6 +5,7 @@ pub mod cutter;
 mod digits;
 pub mod fields;
 pub mod frame;
+mod kind;
 mod line;
 pub mod part;
 pub mod print;

@@ -1,9 +1,10 @@
-ghost use Rattle.std.specs.Prelude.{◌≡◌, ◌+◌, ◌*◌, ◌<◌, ◌≤◌, min, length, take, slice_index};
+ghost use Rattle.std.specs.Prelude.{◌≡◌, ◌+◌, ◌*◌, ◌≤◌, ◌∷◌, ◌++◌, length, take};
 ghost use Rattle.std.specs.List.{AllByRecursion};
 ghost use Rattle.roster.specs.Model.{rows_of};
+ghost use Rattle.scales.specs.Bytes.{high_first};
 ghost use Rattle.frames.specs.Text.{text, written, printing, printed, ReadsBack, EachReadsBack, RoundTrip};
 ghost use Rattle.frames.specs.Cuts.{TextIntoItsLines};
-ghost use Rattle.frames.specs.Replies.{refusal_lines, train_bytes, total_bytes, number_at, train_lines, plan_lines};
+ghost use Rattle.frames.specs.Replies.{refusal_lines, total_bytes, train_lines, plan_lines};
 
 use crate::line::write_line;
 use roster::roster::Roster;
@@ -11,50 +12,35 @@ use scales::printed::PrintedScale;
 use sheets::sheet::Sheet;
 use track::refusal::Refusal;
 
-// The number of the train of a row.
-fn number_of(roster: &Roster, row: usize) -> u16
-    ensures the_number_of_the_train { result ≡ number_at roster.now row }
-{
-    match roster.train(row) {
-        Some(train) => train.number,
-        None => 0,
-    }
-}
+// The kinds of the lines that are printed: for each train, for the total, and for a refusal.
+const TRAIN: u8 = 0x10;
 
-// The bytes of a train's line.
-fn train_bytes(number: u16, sections: [u8; 17], steps: usize) -> [u8; 20]
-    requires { steps ≤ 16 }
-    ensures its_number_and_where_it_stands { take (4 + steps) result ≡ train_bytes number (λ t. slice_index sections t) steps }
+const TOTAL: u8 = 0x11;
+
+const REFUSAL: u8 = 0x1F;
+
+// The bytes of a train's line, with where it stands at all 17 times.
+fn train_bytes(number: u16, sections: &[u8; 17]) -> [u8; 20]
+    ensures its_number_and_where_it_stands { result ≡ 16 ∷ (high_first number ++ sections.now) }
 {
     let mut bytes = [0; 20];
-    bytes[0] = 16;
-    bytes[1] = (number / 256) as u8;
-    bytes[2] = (number % 256) as u8;
-    for time in 0..steps + 1 {
-        bytes[3 + time] = sections[time];
-    }
+    bytes[0] = TRAIN;
+    bytes[1..3].copy_from_slice(&number.to_be_bytes());
+    bytes[3..].copy_from_slice(sections);
     bytes
 }
 
 // The bytes of the line of the total, at a cost of so many bytes.
+#[tactic(auto, using(crate::proofs::Buffers::total_front))]
 fn total_bytes(cost: [u8; 4], width: usize, groups: u8) -> [u8; 6]
     requires { width ≤ 4 }
     ensures the_cost_and_the_groups { take (width + 2) result ≡ total_bytes (take width cost) groups }
 {
     let mut bytes = [0; 6];
-    bytes[0] = 17;
-    for i in 0..width {
-        bytes[1 + i] = cost[i];
-    }
+    bytes[0] = TOTAL;
+    bytes[1..5].copy_from_slice(&cost);
     bytes[1 + width] = groups;
     bytes
-}
-
-// The last time that is printed.
-fn last_time(steps: usize) -> usize
-    ensures the_steps_but_at_most_16 { result ≡ min steps 16 }
-{
-    if steps < 16 { steps } else { 16 }
 }
 
 // Writes a line for each train, from the start of the writing place.
@@ -64,9 +50,9 @@ fn write_trains(roster: &Roster, sheet: &Sheet, steps: usize, out: &mut [u8])
     ensures their_lines_are_written { out.new ≡ written out.old 0 (text (train_lines roster.now sheet.now steps (rows_of roster.now))) }
     ensures each_can_be_read_again { AllByRecursion ReadsBack (train_lines roster.now sheet.now steps (rows_of roster.now)) }
 {
-    for row in 0..roster.count() {
-        let bytes = train_bytes(number_of(roster, row), sheet.rows[row], steps);
-        write_line(&bytes[0..4 + steps], out, row * (3 * (4 + steps)));
+    for (row, train) in roster.trains().iter().enumerate() {
+        let bytes = train_bytes(train.number, &sheet.rows[row]);
+        write_line(&bytes[..4 + steps], &mut out[row * (3 * (4 + steps))..]);
     }
 }
 
@@ -79,12 +65,12 @@ pub fn print_refusal(refusal: &Refusal, out: &mut [u8]) -> Result<usize, Refusal
     if out.len() < 6 {
         return Err(Refusal::WritingPlaceTooShort);
     }
-    let bytes = [31, refusal.number()];
-    write_line(&bytes, out, 0);
+    write_line(&[REFUSAL, refusal.number()], out);
     Ok(6)
 }
 
 // Prints a plan: where each train stands at times 0 to `steps` (at most 16), the cost, and how many groups there are.
+// The arguments stay apart: a struct of them would be made for this one call, and taken apart at once.
 pub fn print_plan<S: PrintedScale>(
     scale: &S,
     roster: &Roster,
@@ -100,7 +86,7 @@ pub fn print_plan<S: PrintedScale>(
     ensures a_text_is_cut_into_its_lines { TextIntoItsLines }
     ensures what_is_printed_can_be_read_again { RoundTrip }
 {
-    let last = last_time(steps);
+    let last = steps.min(16);
     let mut shown = [0; 4];
     let width = scale.write_bytes(cost, &mut shown);
     let front = roster.count() * (3 * (4 + last));
@@ -110,6 +96,6 @@ pub fn print_plan<S: PrintedScale>(
     }
     write_trains(roster, sheet, last, out);
     let bytes = total_bytes(shown, width, groups);
-    write_line(&bytes[0..width + 2], out, front);
+    write_line(&bytes[..width + 2], &mut out[front..]);
     Ok(length)
 }

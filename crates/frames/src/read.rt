@@ -1,11 +1,12 @@
-ghost use Rattle.std.specs.Prelude.{◌≡◌, ◌+◌, ◌<◌, ◌≤◌, length, drop, if◌then◌else◌, Ok, Err, nat_eq};
-ghost use Rattle.frames.specs.Lines.{right, fault_from, fault_of, size_of, place_of};
+ghost use Rattle.std.specs.Prelude.{◌≡◌, ◌≤◌, length, drop};
+ghost use Rattle.std.specs.List.{enumerate_from, prefix_len};
+ghost use Rattle.frames.specs.Lines.{right, fault_from, fault_of, place_of};
 ghost use Rattle.frames.specs.Frames.{shown, read_as, KindThenFields};
-ghost use Rattle.track.specs.declared.refusal.Refusal.TheVariants.{UnknownFrame};
 
-use crate::digits::is_digit;
+use crate::digits::value_of;
 use crate::fields::byte_at;
 use crate::frame::Frame;
+use crate::kind::Kind;
 use crate::part::Part;
 use track::refusal::Refusal;
 
@@ -13,23 +14,35 @@ use track::refusal::Refusal;
 fn is_right(i: usize, x: u8) -> bool
     ensures whether_it_may_stand_there { result ≡ right i x }
 {
-    if i % 3 == 2 { x == 32 } else { is_digit(x) }
+    if i % 3 == 2 {
+        x == b' '
+    } else {
+        value_of(x).is_some()
+    }
+}
+
+// How many bytes from the start of a line may stand where they do.
+fn right_bytes(line: &[u8]) -> usize
+    ensures as_many_as_are_right { result ≡ prefix_len (λ p. right p.0 p.1) (enumerate_from 0 line.now) }
+    ensures not_more_than_there_are { result ≤ length line.now }
+{
+    line.iter()
+        .enumerate()
+        .take_while(|(i, x)| is_right(*i, **x))
+        .count()
 }
 
 // The place of the first wrong byte, if there is one; the line's length, where a digit is missing at the end.
+#[tactic(auto, using(crate::proofs::Faults::wrong_there, crate::proofs::Faults::right_to_the_end), unfolding(crate::specs::Lines::fault_from))]
 fn first_wrong(line: &[u8]) -> Option<u8>
     requires { length line.now ≤ 64 }
     ensures the_first_wrong_place { result ≡ fault_from 0 line.now }
 {
-    for i in 0..line.len() {
-        if !is_right(i, line[i]) {
-            return Some(i as u8);
-        }
-    }
-    if line.len() % 3 == 2 {
+    let right = right_bytes(line);
+    if right == line.len() && right % 3 == 2 {
         None
     } else {
-        Some(line.len() as u8)
+        Some(right as u8)
     }
 }
 
@@ -37,28 +50,10 @@ fn first_wrong(line: &[u8]) -> Option<u8>
 fn fault(line: &[u8]) -> Option<u8>
     ensures the_first_fault { result ≡ fault_of line.now }
 {
-    if line.len() == 0 {
-        Some(0)
-    } else if line.len() > 64 {
-        Some(64)
-    } else {
-        first_wrong(line)
-    }
-}
-
-// How many bytes a frame of this kind has, the kind among them; 0 where there is no such kind.
-fn size_of(kind: u8) -> usize
-    ensures the_size_of_the_kind { result ≡ size_of kind }
-{
-    match kind {
-        1 => 2,
-        2 => 4,
-        3 => 5,
-        4 => 1,
-        5 => 5,
-        6 => 3,
-        7 => 2,
-        _ => 0,
+    match line.len() {
+        0 => Some(0),
+        1..=64 => first_wrong(line),
+        _ => Some(64),
     }
 }
 
@@ -67,26 +62,10 @@ fn fields_of(line: &[u8]) -> Part<'_>
     ensures what_stands_there { result.digits.now ≡ drop (place_of line.now) line.now }
     ensures where_it_begins { result.place ≡ place_of line.now }
 {
-    let place = if line.len() < 3 { line.len() } else { 3 };
+    let place = line.len().min(3);
     Part {
         digits: &line[place..],
         place,
-    }
-}
-
-// The frame of this kind with these fields, if there is such a kind.
-fn framed(kind: u8, part: Part<'_>) -> Result<Frame<'_>, Refusal>
-    ensures of_a_known_kind { shown result ≡ (if nat_eq (size_of kind) 0 then Err UnknownFrame else Ok (kind, part.entry.digits.now, part.entry.place)) }
-{
-    match kind {
-        1 => Ok(Frame::AddSections(part)),
-        2 => Ok(Frame::Link(part)),
-        3 => Ok(Frame::Foul(part)),
-        4 => Ok(Frame::Finish(part)),
-        5 => Ok(Frame::Enter(part)),
-        6 => Ok(Frame::Withdraw(part)),
-        7 => Ok(Frame::Plan(part)),
-        _ => Err(Refusal::UnknownFrame),
     }
 }
 
@@ -98,9 +77,9 @@ pub fn read(line: &[u8]) -> Result<Frame<'_>, Refusal>
     if let Some(place) = fault(line) {
         return Err(Refusal::NotPairsOfDigits(place));
     }
-    let kind = byte_at(line, 0);
-    if size_of(kind) != (line.len() + 1) / 3 {
+    let kind = Kind::try_from(byte_at(line, 0))?;
+    if kind.size() != (line.len() + 1) / 3 {
         return Err(Refusal::UnknownFrame);
     }
-    framed(kind, fields_of(line))
+    Ok(kind.framed(fields_of(line)))
 }

@@ -5,6 +5,7 @@ ghost use Rattle.frames.specs.Cutters.{cut_of};
 use crate::cutter::Cutter;
 
 impl Cutter {
+    #[tactic(auto, using(crate::proofs::Cutting::all_lines))]
     pub fn new() -> Cutter
         ensures nothing_is_begun { cut_of result ≡ fresh }
         ensures all_lines_are_given { AllLines }
@@ -25,6 +26,7 @@ impl Cutter {
     }
 
     // Holds a byte behind the first `begun`, if it is one of the first 65.
+    #[tactic(auto, using(crate::proofs::Cutting::full, crate::proofs::Cutting::stored))]
     fn hold(&mut self, begun: usize, byte: u8)
         requires { begun ≤ 65 }
         ensures one_of_the_first_65_is_held { cut_of self.new ≡ cut (take 65 (take begun self.old.held ++ (byte ∷ []))) false }
@@ -39,6 +41,7 @@ impl Cutter {
     }
 
     // Takes the next byte, and tells whether it ends the line.
+    #[tactic(auto, using(crate::proofs::Cutting::ends, crate::proofs::Cutting::goes_on))]
     pub fn push(&mut self, byte: u8) -> bool
         ensures the_byte_is_taken { cut_of self.new ≡ after (cut_of self.old) byte }
         ensures whether_the_line_is_ended { result ≡ (byte == 10) }
@@ -46,7 +49,7 @@ impl Cutter {
         ensures any_cut_into_pieces_gives_the_same_lines { AnyPieces }
     {
         let begun = self.begun();
-        if byte == 10 {
+        if byte == b'\n' {
             self.count = begun;
             self.ended = true;
             true
@@ -57,18 +60,18 @@ impl Cutter {
     }
 
     // The current line, or the one that the last byte ended: at most its first 65 bytes.
+    #[tactic(auto, using(crate::proofs::Cutting::clipped_reads_the_same))]
     pub fn line(&self) -> &[u8]
         ensures what_is_held_of_the_line { result.now ≡ (cut_of self.now).line }
         ensures it_is_read_as_the_whole_line { ClippedReadsTheSame }
     {
-        &self.held[0..self.count]
+        &self.held[..self.count]
     }
 
     // Whether a line has begun that no 0A has ended: at the end of the input it is the last one.
     pub fn has_rest(&self) -> bool
         ensures whether_a_line_has_begun { result ≡ not (length (begun_of (cut_of self.now)) == 0) }
     {
-        let held = self.line();
-        !self.ended && held.len() > 0
+        self.begun() > 0
     }
 }
