@@ -4,7 +4,8 @@ use Rattle.std.proofs.lemmas.Bool.{cases_Bool, both_ways, not-true}
 use Rattle.scales.specs.Measure.{Measure, MeasureLaws}
 use Rattle.words.specs.Words.{under, with}
 use Rattle.words.proofs.Least.{some≢none, NoHigher, no_higher, lower_no_higher, no_higher_trans}
-use Rattle.walk.specs.Walks.{or_else, cut, spent_up}
+use Rattle.std.specs.Option.{option_or}
+use Rattle.walk.specs.Walks.{cut, spent_up}
 
 abbrev pub Sized : {C : Type 0} → Measure C → ℕ → Option C → Type 0
 Sized S b None = Unit {0}
@@ -27,7 +28,7 @@ module _ {C : Type 0} (S : Measure C) (L : MeasureLaws S) where
       no (inr l) k = both_ways (S.lower a a) (L.lower_self a) (L.lower_trans a b a k l)
 
   module _ (b a n : C) where
-    under_else : (p : Bool) → under S (or_else (cond p (Some a) None) (Some b)) (Some n) ≡ cond p (S.lower n a) (S.lower n b)
+    under_else : (p : Bool) → under S (option_or (cond p (Some a) None) (Some b)) (Some n) ≡ cond p (S.lower n a) (S.lower n b)
     under_else true = refl
     under_else false = refl
 
@@ -36,7 +37,7 @@ module _ {C : Type 0} (S : Measure C) (L : MeasureLaws S) where
     cut_cond false = refl
 
     table : (p q r : Bool) → (p ≡ true → q ≡ true → r ≡ true) → (p ≡ false → q ≡ false → r ≡ false)
-        → or_else (cond (cond p q r) (Some n) None) (cond p (Some a) None) ≡ cond q (cond r (Some n) None) (cond p (Some a) None)
+        → option_or (cond (cond p q r) (Some n) None) (cond p (Some a) None) ≡ cond q (cond r (Some n) None) (cond p (Some a) None)
     table true true true h k = refl
     table true true false h k = absurd (true≢false (sym (h refl refl)))
     table true false true h k = refl
@@ -46,9 +47,9 @@ module _ {C : Type 0} (S : Measure C) (L : MeasureLaws S) where
     table false false true h k = absurd (true≢false (k refl refl))
     table false false false h k = refl
 
-    step_some : or_else (cut S (or_else (cut S (Some b) (Some a)) (Some b)) (Some n)) (cut S (Some b) (Some a)) ≡ cut S (Some b) (cond (S.lower n a) (Some n) (Some a))
+    step_some : option_or (cut S (option_or (cut S (Some b) (Some a)) (Some b)) (Some n)) (cut S (Some b) (Some a)) ≡ cut S (Some b) (cond (S.lower n a) (Some n) (Some a))
     step_some =
-        ap (λ t. or_else (cond t (Some n) None) (cond (S.lower a b) (Some a) None)) (under_else (S.lower a b))
+        ap (λ t. option_or (cond t (Some n) None) (cond (S.lower a b) (Some a) None)) (under_else (S.lower a b))
         ∙ table (S.lower a b) (S.lower n a) (S.lower n b)
         (λ e f. L.lower_trans n a b f e)
         (λ e f. not_lower n b (no_higher_trans S L b a n (no_higher S L b a e) (no_higher S L a n f)))
@@ -58,23 +59,23 @@ module _ {C : Type 0} (S : Measure C) (L : MeasureLaws S) where
     of_cond true q r e h = e
     of_cond false q r e h = h refl e
 
-  else_none : (o : Option C) → or_else o None ≡ o
+  else_none : (o : Option C) → option_or o None ≡ o
   else_none None = refl
   else_none (Some a) = refl
 
-  pick_none : (t : Bool) (a n : C) → or_else (cond t (Some n) None) (Some a) ≡ cut S None (cond t (Some n) (Some a))
+  pick_none : (t : Bool) (a n : C) → option_or (cond t (Some n) None) (Some a) ≡ cut S None (cond t (Some n) (Some a))
   pick_none true a n = refl
   pick_none false a n = refl
 
   -- the new one, found under the nearer bound, or else the old one
-  pub cut_step : (b A N : Option C) → or_else (cut S (or_else (cut S b A) b) N) (cut S b A) ≡ cut S b (cond (under S A N) N A)
+  pub cut_step : (b A N : Option C) → option_or (cut S (option_or (cut S b A) b) N) (cut S b A) ≡ cut S b (cond (under S A N) N A)
   cut_step None None None = refl
   cut_step None None (Some n) = refl
   cut_step None (Some a) None = refl
   cut_step None (Some a) (Some n) = pick_none (S.lower n a) a n
   cut_step (Some b) None None = refl
   cut_step (Some b) None (Some n) = else_none (cut S (Some b) (Some n))
-  cut_step (Some b) (Some a) None = ap (λ z. or_else z (cut S (Some b) (Some a))) (cut_none (or_else (cut S (Some b) (Some a)) (Some b)))
+  cut_step (Some b) (Some a) None = ap (λ z. option_or z (cut S (Some b) (Some a))) (cut_none (option_or (cut S (Some b) (Some a)) (Some b)))
   cut_step (Some b) (Some a) (Some n) = step_some b a n
 
   kept : (t : Bool) (n c : C) → cond t (Some n) None ≡ Some c → t ≡ true
@@ -86,7 +87,7 @@ module _ {C : Type 0} (S : Measure C) (L : MeasureLaws S) where
   left_out false n e = refl
 
   -- what is found is lower than the old one
-  pub found_lower : (b A N : Option C) (c : C) → cut S (or_else (cut S b A) b) N ≡ Some c → under S A N ≡ true
+  pub found_lower : (b A N : Option C) (c : C) → cut S (option_or (cut S b A) b) N ≡ Some c → under S A N ≡ true
   found_lower b None (Some n) c e = refl
   found_lower b None None c e = absurd (some≢none c (sym e ∙ cut_none _))
   found_lower b (Some a) None c e = absurd (some≢none c (sym e ∙ cut_none _))
@@ -96,7 +97,7 @@ module _ {C : Type 0} (S : Measure C) (L : MeasureLaws S) where
       (λ f g. lower_no_higher S L n b a g (no_higher S L b a f))
 
   -- where nothing is found, the old one stays the least
-  pub none_lower : (b A N : Option C) (c : C) → cut S (or_else (cut S b A) b) N ≡ None → cut S b A ≡ Some c → under S A N ≡ false
+  pub none_lower : (b A N : Option C) (c : C) → cut S (option_or (cut S b A) b) N ≡ None → cut S b A ≡ Some c → under S A N ≡ false
   none_lower b None N c e k = absurd (some≢none c (sym k ∙ cut_none b))
   none_lower b (Some a) None c e k = refl
   none_lower None (Some a) (Some n) c e k = left_out (S.lower n a) n e

@@ -1,5 +1,7 @@
 -- The walk from a place on: what a turn of its loop, its end and its cuts show.
 use Rattle.std.proofs.Common.{◌≡◌, ℕ, zero, suc, ◌+◌, ◌-◌, ◌*◌, ◌<◌, ◌≤◌, Bool, true, false, cond, List, [], ◌∷◌, ◌++◌, length, take, drop, set, Some, None, Option, sym, refl, ap, ◌∙◌, subst, ap₂, inl, mul-zero, mul-suc, add-one, arith, length-set, length-take-le, take-suc-set}
+use Rattle.std.specs.Bool.{then_some}
+use Rattle.std.specs.Option.{option_or}
 use Rattle.std.proofs.lemmas.Bool.{not-false}
 use Rattle.scales.specs.Measure.{Measure, MeasureLaws}
 use Rattle.words.specs.Words.{Process, Run, spent, under, with, least, first, rest, best, choice}
@@ -10,7 +12,9 @@ use Rattle.words.specs.declared.found.Found.{Found}
 use Rattle.words.specs.Tasks.{cost_of, Goes}
 use Rattle.words.proofs.Turns.{turned_full, turned_part, may_same, price_same}
 use Rattle.words.proofs.Prices.{price_size}
-use Rattle.walk.specs.Walks.{or_else, cut, spent_up, todo, Ready, Walked, put_at, found_if}
+use Rattle.walk.specs.declared.spot.Spot.{Spot}
+use Rattle.walk.specs.Spots.{after, next_step}
+use Rattle.walk.specs.Walks.{cut, spent_up, todo, Ready, Walked, put_at}
 use Rattle.walk.proofs.Cuts.{Sized, sized_at, cut_none, cut_step, found_lower, none_lower, with_cond, under_with, with_assoc, spent_none, nothing_over, price_over}
 
 pub goes_map : {C : Type 0} (r : Option (Found C)) (P Q : List ℕ → Type 0) → ((w : List ℕ) → P w → Q w) → Goes r P → Goes r Q
@@ -21,11 +25,11 @@ cost_put : {C : Type 0} (p x : ℕ) (r : Option (Found C)) → cost_of (put_at p
 cost_put p x None = refl
 cost_put p x (Some f) = refl
 
-cost_else : {C : Type 0} (a b : Option (Found C)) → cost_of (or_else a b) ≡ or_else (cost_of a) (cost_of b)
+cost_else : {C : Type 0} (a b : Option (Found C)) → cost_of (option_or a b) ≡ option_or (cost_of a) (cost_of b)
 cost_else None b = refl
 cost_else (Some f) b = refl
 
-goes_else : {C : Type 0} (a b : Option (Found C)) (P : List ℕ → Type 0) → ((c : C) → cost_of a ≡ Some c → Goes a P) → ((c : C) → cost_of a ≡ None → cost_of b ≡ Some c → Goes b P) → Goes (or_else a b) P
+goes_else : {C : Type 0} (a b : Option (Found C)) (P : List ℕ → Type 0) → ((c : C) → cost_of a ≡ Some c → Goes a P) → ((c : C) → cost_of a ≡ None → cost_of b ≡ Some c → Goes b P) → Goes (option_or a b) P
 goes_else (Some f) b P h k = h f.cost refl
 goes_else None None P h k = tt
 goes_else None (Some g) P h k = k g.cost refl refl
@@ -72,45 +76,45 @@ goes_put : {C : Type 0} (p x : ℕ) (r : Option (Found C)) (P Q : List ℕ → T
 goes_put p x None P Q h g l = tt
 goes_put p x (Some f) P Q h g l = h f.plan g l
 
-module _ {C : Type 0} (S : Measure C) (K : Task) (left j place : ℕ) (at to : List ℕ) (sofar : C) (bound : Option C) where
+module _ {C : Type 0} (S : Measure C) (K : Task) (spot : Spot C) (bound : Option C) where
   abbrev pub from_here : Joint
-  from_here = record { at = take K.trains at; to = take j to }
+  from_here = record { at = take K.trains spot.at; to = take spot.moved spot.to }
 
   abbrev pub row_of : ℕ → Option C
-  row_of = choice S (process S K) (todo K left (j + 1)) from_here
+  row_of = choice S (process S K) (todo K spot.left (spot.moved + 1)) from_here
 
   abbrev pub RouteBy : ℕ → List ℕ → Type 0
-  RouteBy y plan = take (suc (todo K left (j + 1))) (drop place plan) ≡ y ∷ best S (process S K) (todo K left (j + 1)) (turned K.trains (take K.trains at) (take j to ++ (y ∷ [])))
+  RouteBy y plan = take (suc (todo K spot.left (spot.moved + 1))) (drop spot.place plan) ≡ y ∷ best S (process S K) (todo K spot.left (spot.moved + 1)) (turned K.trains (take K.trains spot.at) (take spot.moved spot.to ++ (y ∷ [])))
 
   -- the sections below x are tried, and b is the first of the least that stays below the bound
   pub record Scan (x : ℕ) (b : Option (Found C)) : Type 0 where
-    pub cost : cost_of b ≡ cut S bound (with S sofar (least S x row_of))
+    pub cost : cost_of b ≡ cut S bound (with S spot.sofar (least S x row_of))
     pub goes : Goes b (RouteBy (first S x row_of))
     pub long : Goes b (λ plan. length plan ≡ 128)
 
-module _ {C : Type 0} (S : Measure C) (L : MeasureLaws S) (K : Task) (left j place : ℕ) (at to : List ℕ) (sofar : C) (bound : Option C)
-    (R : Ready S K left j place sofar) (jk : j < K.trains) (ka : K.trains ≤ length at) (kt : K.trains ≤ length to) where
+module _ {C : Type 0} (S : Measure C) (L : MeasureLaws S) (K : Task) (spot : Spot C) (bound : Option C)
+    (R : Ready S K spot) (jk : spot.moved < K.trains) (ka : K.trains ≤ length spot.at) (kt : K.trains ≤ length spot.to) where
   abbrev row : ℕ → Option C
-  row = row_of S K left j place at to sofar bound
+  row = row_of S K spot bound
 
   abbrev Scanned : ℕ → Option (Found C) → Type 0
-  Scanned = Scan S K left j place at to sofar bound
+  Scanned = Scan S K spot bound
 
   abbrev rests : ℕ
-  rests = todo K left (j + 1)
+  rests = todo K spot.left (spot.moved + 1)
 
-  todo_is : todo K left j ≡ suc rests
+  todo_is : todo K spot.left spot.moved ≡ suc rests
   todo_is = omega arith
 
   pub scan_none : Scanned 0 None
   scan_none = record { cost = sym (cut_none S L bound); goes = tt; long = tt }
 
-  row_is : (x : ℕ) → row x ≡ cond (may_move K at to j x) (with S (move_price S K at j x) (rest S (process S K) rests (turned K.trains (take K.trains at) (take j to ++ (x ∷ []))))) None
+  row_is : (x : ℕ) → row x ≡ cond (may_move K spot.at spot.to spot.moved x) (with S (move_price S K spot.at spot.moved x) (rest S (process S K) rests (turned K.trains (take K.trains spot.at) (take spot.moved spot.to ++ (x ∷ []))))) None
   unfolding process
   row_is x =
-      let l : length (take j to) ≡ j = length-take-le j to (omega arith) in
-      let m = may_same K j at to jk x in
-      let p = price_same S K j at jk x in
+      let l : length (take spot.moved spot.to) ≡ spot.moved = length-take-le spot.moved spot.to (omega arith) in
+      let m = may_same K spot.moved spot.at spot.to jk x in
+      let p = price_same S K spot.moved spot.at jk x in
       simp (l, m, p)
 
   -- sizes of what the row holds
@@ -120,21 +124,21 @@ module _ {C : Type 0} (S : Measure C) (L : MeasureLaws S) (K : Task) (left j pla
   row_sized : (x : ℕ) → Sized S (16 * suc rests) (row x)
   row_sized x =
       subst (Sized S (16 * suc rests)) (sym (row_is x))
-      (sized_choice S L (16 * rests) (may_move K at to j x) (move_price S K at j x) _ (16 * suc rests) (L.size_price _ _ (R.points_most _ _)) (omega (arith, few)) (omega arith)
-      (rest_sized S L K R.points_most rests (turned K.trains (take K.trains at) (take j to ++ (x ∷ []))) (omega (arith, few))))
+      (sized_choice S L (16 * rests) (may_move K spot.at spot.to spot.moved x) (move_price S K spot.at spot.moved x) _ (16 * suc rests) (L.size_price _ _ (R.points_most _ _)) (omega (arith, few)) (omega arith)
+      (rest_sized S L K R.points_most rests (turned K.trains (take K.trains spot.at) (take spot.moved spot.to ++ (x ∷ []))) (omega (arith, few))))
 
   least_sized : (x : ℕ) → Sized S (16 * suc rests) (least S x row)
   least_sized zero = tt
   least_sized (suc x) = sized_cond S (16 * suc rests) (under S (least S x row) (row x)) (row x) (least S x row) (row_sized x) (least_sized x)
 
   -- one candidate more: what it gives under the nearer bound, or else the best so far
-  step : (x : ℕ) (b f : Option (Found C)) → Scanned x b → cost_of f ≡ cut S (or_else (cost_of b) bound) (with S sofar (row x))
-      → Goes f (RouteBy S K left j place at to sofar bound x) → Goes f (λ plan. length plan ≡ 128) → Scanned (x + 1) (or_else f b)
-  step x b f H e g l = subst (λ z. Scanned z (or_else f b)) (sym (add-one x)) (record {
-    cost = cost_else f b ∙ ap₂ or_else e1 H.cost ∙ cut_step S L bound A N ∙ ap (cut S bound) (ap (λ t. cond t N A) same ∙ sym (with_cond S L sofar t n a));
+  step : (x : ℕ) (b f : Option (Found C)) → Scanned x b → cost_of f ≡ cut S (option_or (cost_of b) bound) (with S spot.sofar (row x))
+      → Goes f (RouteBy S K spot bound x) → Goes f (λ plan. length plan ≡ 128) → Scanned (x + 1) (option_or f b)
+  step x b f H e g l = subst (λ z. Scanned z (option_or f b)) (sym (add-one x)) (record {
+    cost = cost_else f b ∙ ap₂ option_or e1 H.cost ∙ cut_step S L bound A N ∙ ap (cut S bound) (ap (λ t. cond t N A) same ∙ sym (with_cond S L spot.sofar t n a));
     goes = goes_else f b _
-        (λ c h. subst (λ u. Goes f (RouteBy S K left j place at to sofar bound (cond u x (first S x row)))) (sym (sym same ∙ found_lower S L bound A N c (sym e1 ∙ h))) g)
-        (λ c h k. subst (λ u. Goes b (RouteBy S K left j place at to sofar bound (cond u x (first S x row)))) (sym (sym same ∙ none_lower S L bound A N c (sym e1 ∙ h) (sym H.cost ∙ k))) H.goes);
+        (λ c h. subst (λ u. Goes f (RouteBy S K spot bound (cond u x (first S x row)))) (sym (sym same ∙ found_lower S L bound A N c (sym e1 ∙ h))) g)
+        (λ c h k. subst (λ u. Goes b (RouteBy S K spot bound (cond u x (first S x row)))) (sym (sym same ∙ none_lower S L bound A N c (sym e1 ∙ h) (sym H.cost ∙ k))) H.goes);
     long = goes_else f b _ (λ c h. l) (λ c h k. H.long);
   })
     where
@@ -145,70 +149,70 @@ module _ {C : Type 0} (S : Measure C) (L : MeasureLaws S) (K : Task) (left j pla
       n = row x
 
       A : Option C
-      A = with S sofar (least S x row)
+      A = with S spot.sofar (least S x row)
 
       N : Option C
-      N = with S sofar (row x)
+      N = with S spot.sofar (row x)
 
       t : Bool
       t = under S (least S x row) (row x)
 
-      e1 : cost_of f ≡ cut S (or_else (cut S bound (with S sofar (least S x row))) bound) (with S sofar (row x))
-      e1 = e ∙ ap (λ z. cut S (or_else z bound) (with S sofar (row x))) H.cost
+      e1 : cost_of f ≡ cut S (option_or (cut S bound (with S spot.sofar (least S x row))) bound) (with S spot.sofar (row x))
+      e1 = e ∙ ap (λ z. cut S (option_or z bound) (with S spot.sofar (row x))) H.cost
 
-      same : under S (with S sofar (least S x row)) (with S sofar (row x)) ≡ under S (least S x row) (row x)
-      same = under_with S L sofar (16 * suc rests) (least S x row) (row x) (omega (arith, R.size, todo_is)) (least_sized x) (row_sized x)
+      same : under S (with S spot.sofar (least S x row)) (with S spot.sofar (row x)) ≡ under S (least S x row) (row x)
+      same = under_with S L spot.sofar (16 * suc rests) (least S x row) (row x) (omega (arith, R.size, todo_is)) (least_sized x) (row_sized x)
 
-  pub scan_skip : (x : ℕ) (b : Option (Found C)) → Scanned x b → may_move K at to j x ≡ false → Scanned (x + 1) b
+  pub scan_skip : (x : ℕ) (b : Option (Found C)) → Scanned x b → may_move K spot.at spot.to spot.moved x ≡ false → Scanned (x + 1) b
   scan_skip x b H e =
-      let none : row x ≡ None = row_is x ∙ ap (λ u. cond u (with S (move_price S K at j x) (rest S (process S K) rests (turned K.trains (take K.trains at) (take j to ++ (x ∷ []))))) None) e in
-      step x b None H (sym (ap (λ z. cut S (or_else (cost_of b) bound) (with S sofar z)) none ∙ cut_none S L (or_else (cost_of b) bound))) tt tt
+      let none : row x ≡ None = row_is x ∙ ap (λ u. cond u (with S (move_price S K spot.at spot.moved x) (rest S (process S K) rests (turned K.trains (take K.trains spot.at) (take spot.moved spot.to ++ (x ∷ []))))) None) e in
+      step x b None H (sym (ap (λ z. cut S (option_or (cost_of b) bound) (with S spot.sofar z)) none ∙ cut_none S L (option_or (cost_of b) bound))) tt tt
 
-  pub scan_move : (x : ℕ) (b r : Option (Found C)) → Scanned x b → may_move K at to j x ≡ true
-      → Walked S K left (j + 1) (place + 1) at (set to j x) (S.join sofar (move_price S K at j x)) (or_else (cost_of b) bound) r
-      → Scanned (x + 1) (or_else (put_at place x r) b)
+  pub scan_move : (x : ℕ) (b r : Option (Found C)) → Scanned x b → may_move K spot.at spot.to spot.moved x ≡ true
+      → Walked S K (after spot x (S.join spot.sofar (move_price S K spot.at spot.moved x))) (option_or (cost_of b) bound) r
+      → Scanned (x + 1) (option_or (put_at spot.place x r) b)
   scan_move x b r H e W =
-      let q : take (j + 1) (set to j x) ≡ take j to ++ (x ∷ []) = rw add-one (take-suc-set to j x (omega arith)) in
-      let p = move_price S K at j x in
-      let u : ℕ → Joint = λ z. turned K.trains (take K.trains at) (take j to ++ (x ∷ [])) in
+      let q : take (spot.moved + 1) (set spot.to spot.moved x) ≡ take spot.moved spot.to ++ (x ∷ []) = rw add-one (take-suc-set spot.to spot.moved x (omega arith)) in
+      let p = move_price S K spot.at spot.moved x in
+      let u : ℕ → Joint = λ z. turned K.trains (take K.trains spot.at) (take spot.moved spot.to ++ (x ∷ [])) in
       let rz = rest_sized S L K R.points_most rests (u 0) (omega (arith, few)) in
       let ps : S.size p ≤ 16 = L.size_price _ _ (R.points_most _ _) in
-      let here : with S sofar (with S p (rest S (process S K) rests (u 0))) ≡ with S sofar (row x) =
-      ap (with S sofar) (sym (row_is x ∙ ap (λ m. cond m (with S p (rest S (process S K) rests (u 0))) None) e)) in
-      step x b (put_at place x r) H
-      (cost_put place x r ∙ W.cost
-      ∙ ap (λ w. cut S (or_else (cost_of b) bound) (with S (S.join sofar p) (rest S (process S K) rests (turned K.trains (take K.trains at) w)))) q
-      ∙ ap (cut S (or_else (cost_of b) bound)) (with_assoc S L sofar p (16 * rests) (rest S (process S K) rests (u 0)) (omega (arith, R.size, todo_is)) rz ∙ here))
-      (goes_put place x r _ _ (λ plan h l.
-      put_word plan place rests x (omega (arith, R.room, todo_is))
-      ∙ ap (λ w. x ∷ w) (ap (λ i. take rests (drop i plan)) (sym (add-one place)) ∙ h ∙ ap (λ w. best S (process S K) rests (turned K.trains (take K.trains at) w)) q))
+      let here : with S spot.sofar (with S p (rest S (process S K) rests (u 0))) ≡ with S spot.sofar (row x) =
+      ap (with S spot.sofar) (sym (row_is x ∙ ap (λ m. cond m (with S p (rest S (process S K) rests (u 0))) None) e)) in
+      step x b (put_at spot.place x r) H
+      (cost_put spot.place x r ∙ W.cost
+      ∙ ap (λ w. cut S (option_or (cost_of b) bound) (with S (S.join spot.sofar p) (rest S (process S K) rests (turned K.trains (take K.trains spot.at) w)))) q
+      ∙ ap (cut S (option_or (cost_of b) bound)) (with_assoc S L spot.sofar p (16 * rests) (rest S (process S K) rests (u 0)) (omega (arith, R.size, todo_is)) rz ∙ here))
+      (goes_put spot.place x r _ _ (λ plan h l.
+      put_word plan spot.place rests x (omega (arith, R.room, todo_is))
+      ∙ ap (λ w. x ∷ w) (ap (λ i. take rests (drop i plan)) (sym (add-one spot.place)) ∙ h ∙ ap (λ w. best S (process S K) rests (turned K.trains (take K.trains spot.at) w)) q))
       W.goes W.long)
-      (goes_put place x r _ _ (λ plan h l. length-set plan place x ∙ l) W.long W.long)
+      (goes_put spot.place x r _ _ (λ plan h l. length-set plan spot.place x ∙ l) W.long W.long)
 
-  pub scan_all : (b : Option (Found C)) → Scanned K.sections b → Walked S K left j place at to sofar bound b
+  pub scan_all : (b : Option (Found C)) → Scanned K.sections b → Walked S K spot bound b
   unfolding rest best process
   scan_all b H =
-      let l : length (take j to) ≡ j = length-take-le j to (omega arith) in
-      let t : turned K.trains (take K.trains at) (take j to) ≡ from_here S K left j place at to sofar bound = turned_part K.trains _ _ (omega arith) in
-      let m : todo K left j ≡ suc rests = todo_is in
+      let l : length (take spot.moved spot.to) ≡ spot.moved = length-take-le spot.moved spot.to (omega arith) in
+      let t : turned K.trains (take K.trains spot.at) (take spot.moved spot.to) ≡ from_here S K spot bound = turned_part K.trains _ _ (omega arith) in
+      let m : todo K spot.left spot.moved ≡ suc rests = todo_is in
       record {
         cost = rw (t, m) H.cost;
         goes = goes_map b _ _ (λ w h. rw (t, m) h) H.goes;
         long = H.long;
       }
 
-  pub join_fits : (x : ℕ) (c : C) → c ≡ move_price S K at j x → S.size sofar + S.size c ≤ 65535
+  pub join_fits : (x : ℕ) (c : C) → c ≡ move_price S K spot.at spot.moved x → S.size spot.sofar + S.size c ≤ 65535
   join_fits x c e =
-      let ps : S.size (move_price S K at j x) ≤ 16 = L.size_price _ _ (R.points_most _ _) in
+      let ps : S.size (move_price S K spot.at spot.moved x) ≤ 16 = L.size_price _ _ (R.points_most _ _) in
       let ps' : S.size c ≤ 16 = subst (λ z. S.size z ≤ 16) (sym e) ps in
       omega (arith, R.size)
 
-  pub ready_next : (x : ℕ) → Ready S K left (j + 1) (place + 1) (S.join sofar (move_price S K at j x))
+  pub ready_next : (x : ℕ) → Ready S K (after spot x (S.join spot.sofar (move_price S K spot.at spot.moved x)))
   ready_next x =
-      let ps : S.size (move_price S K at j x) ≤ 16 = L.size_price _ _ (R.points_most _ _) in
+      let ps : S.size (move_price S K spot.at spot.moved x) ≤ 16 = L.size_price _ _ (R.points_most _ _) in
       let z = R.size in
       let td = todo_is in
-      let js = L.size_join sofar (move_price S K at j x) (omega arith) in
+      let js = L.size_join spot.sofar (move_price S K spot.at spot.moved x) (omega arith) in
       record {
         points_most = R.points_most;
         trains_some = R.trains_some;
@@ -219,45 +223,45 @@ module _ {C : Type 0} (S : Measure C) (L : MeasureLaws S) (K : Task) (left j pla
         size = omega arith;
       }
 
-module _ {C : Type 0} (S : Measure C) (L : MeasureLaws S) (K : Task) (left j place : ℕ) (at to : List ℕ) (sofar : C) (bound : Option C)
-    (R : Ready S K left j place sofar) where
+module _ {C : Type 0} (S : Measure C) (L : MeasureLaws S) (K : Task) (spot : Spot C) (bound : Option C)
+    (R : Ready S K spot) where
   -- what is spent leaves nothing below the bound
-  pub walked_up : spent_up S bound sofar ≡ true → Walked S K left j place at to sofar bound None
+  pub walked_up : spent_up S bound spot.sofar ≡ true → Walked S K spot bound None
   walked_up e =
-      let s : Joint = turned K.trains (take K.trains at) (take j to) in
+      let s : Joint = turned K.trains (take K.trains spot.at) (take spot.moved spot.to) in
       record {
-        cost = sym (spent_none S L bound sofar (16 * todo K left j) (rest S (process S K) (todo K left j) s) (omega (arith, R.size))
-            (rest_sized S L K R.points_most (todo K left j) s (omega (arith, R.size)))
-            (rest_over S L (process S K) (price_size S L K R.points_most) (prices_over S L K) (todo K left j) s (omega (arith, R.size))) e);
+        cost = sym (spent_none S L bound spot.sofar (16 * todo K spot.left spot.moved) (rest S (process S K) (todo K spot.left spot.moved) s) (omega (arith, R.size))
+            (rest_sized S L K R.points_most (todo K spot.left spot.moved) s (omega (arith, R.size)))
+            (rest_over S L (process S K) (price_size S L K R.points_most) (prices_over S L K) (todo K spot.left spot.moved) s (omega (arith, R.size))) e);
         goes = tt;
         long = tt;
       }
 
-  module _ (full : j ≡ K.trains) (kt : K.trains ≤ length to) where
-    turn : turned K.trains (take K.trains at) (take j to) ≡ record { at = take K.trains to; to = [] }
-    turn = ap (λ i. turned K.trains (take K.trains at) (take i to)) full ∙ turned_full K.trains _ _ (length-take-le K.trains to kt)
+  module _ (full : spot.moved ≡ K.trains) (kt : K.trains ≤ length spot.to) where
+    turn : turned K.trains (take K.trains spot.at) (take spot.moved spot.to) ≡ record { at = take K.trains spot.to; to = [] }
+    turn = ap (λ i. turned K.trains (take K.trains spot.at) (take i spot.to)) full ∙ turned_full K.trains _ _ (length-take-le K.trains spot.to kt)
 
     -- all have moved, and the next step begins
-    pub walked_turn : (z : List ℕ) (r : Option (Found C)) → 0 < left → Walked S K (left - 1) 0 place to z sofar bound r → Walked S K left j place at to sofar bound r
-    walked_turn z r h W =
-        let s = turned_part K.trains (take K.trains to) (take 0 z) R.trains_some in
-        let e : turned K.trains (take K.trains to) (take 0 z) ≡ turned K.trains (take K.trains at) (take j to) = s ∙ sym turn in
-        let m : todo K (left - 1) 0 ≡ todo K left j =
-        (let p : left ≡ suc (left - 1) = omega arith in
-        let q : K.trains * left ≡ K.trains * suc (left - 1) = ap (λ u. K.trains * u) p in
-        let v = mul-suc K.trains (left - 1) in omega arith) in
+    pub walked_turn : (r : Option (Found C)) → 0 < spot.left → Walked S K (next_step spot) bound r → Walked S K spot bound r
+    walked_turn r h W =
+        let s = turned_part K.trains (take K.trains spot.to) (take 0 spot.to) R.trains_some in
+        let e : turned K.trains (take K.trains spot.to) (take 0 spot.to) ≡ turned K.trains (take K.trains spot.at) (take spot.moved spot.to) = s ∙ sym turn in
+        let m : todo K (spot.left - 1) 0 ≡ todo K spot.left spot.moved =
+        (let p : spot.left ≡ suc (spot.left - 1) = omega arith in
+        let q : K.trains * spot.left ≡ K.trains * suc (spot.left - 1) = ap (λ u. K.trains * u) p in
+        let v = mul-suc K.trains (spot.left - 1) in omega arith) in
         record {
-          cost = W.cost ∙ ap₂ (λ n u. cut S bound (with S sofar (rest S (process S K) n u))) m e;
-          goes = goes_map r _ _ (λ w h. ap (λ n. take n (drop place w)) (sym m) ∙ h ∙ ap₂ (λ n u. best S (process S K) n u) m e) W.goes;
+          cost = W.cost ∙ ap₂ (λ n u. cut S bound (with S spot.sofar (rest S (process S K) n u))) m e;
+          goes = goes_map r _ _ (λ w h. ap (λ n. take n (drop spot.place w)) (sym m) ∙ h ∙ ap₂ (λ n u. best S (process S K) n u) m e) W.goes;
           long = W.long;
         }
 
-    pub ready_turn : 0 < left → Ready S K (left - 1) 0 place sofar
+    pub ready_turn : 0 < spot.left → Ready S K (next_step spot)
     ready_turn h =
-        let m : todo K (left - 1) 0 ≡ todo K left j =
-        (let p : left ≡ suc (left - 1) = omega arith in
-        let q : K.trains * left ≡ K.trains * suc (left - 1) = ap (λ u. K.trains * u) p in
-        let v = mul-suc K.trains (left - 1) in omega arith) in
+        let m : todo K (spot.left - 1) 0 ≡ todo K spot.left spot.moved =
+        (let p : spot.left ≡ suc (spot.left - 1) = omega arith in
+        let q : K.trains * spot.left ≡ K.trains * suc (spot.left - 1) = ap (λ u. K.trains * u) p in
+        let v = mul-suc K.trains (spot.left - 1) in omega arith) in
         record {
           points_most = R.points_most;
           trains_some = R.trains_some;
@@ -269,22 +273,29 @@ module _ {C : Type 0} (S : Measure C) (L : MeasureLaws S) (K : Task) (left j pla
         }
 
     -- the last step is made
-    pub walked_end : (r : Option (Found C)) → left ≡ 0 → spent_up S bound sofar ≡ false → cost_of r ≡ found_if (home K (take K.trains to)) sofar
-        → Goes r (λ plan. length plan ≡ 128) → Walked S K left j place at to sofar bound r
+    pub walked_end : (r : Option (Found C)) (plan : List ℕ) → length plan ≡ 128 → spot.left ≡ 0 → spent_up S bound spot.sofar ≡ false
+        → r ≡ then_some (home K (take K.trains spot.to)) (record { cost = spot.sofar; plan = plan }) → Walked S K spot bound r
     unfolding rest best process
-    walked_end r z u e l =
-        let m : todo K left j ≡ 0 =
-        (let q : K.trains * left ≡ K.trains * 0 = ap (λ v. K.trains * v) z in let v = mul-zero K.trains in omega arith) in
-        record {
-          cost = e ∙ ended bound (home K (take K.trains to)) u ∙ rw (turn, m);
-          goes = goes_map r _ _ (λ w h. rw (turn, m)) l;
-          long = l;
-        }
+    walked_end r plan l z u e =
+        let m : todo K spot.left spot.moved ≡ 0 =
+        (let q : K.trains * spot.left ≡ K.trains * 0 = ap (λ v. K.trains * v) z in let v = mul-zero K.trains in omega arith) in
+        rw e (record {
+          cost = ended bound (home K (take K.trains spot.to)) u ∙ rw (turn, m);
+          goes = home_goes (home K (take K.trains spot.to)) _ (rw (turn, m));
+          long = home_goes (home K (take K.trains spot.to)) (λ w. length w ≡ 128) l;
+        })
       where
-        ended : (b : Option C) (h : Bool) → spent_up S b sofar ≡ false → found_if h sofar ≡ cut S b (with S sofar (cond h (Some S.nothing) None))
+        end : Found C
+        end = record { cost = spot.sofar; plan = plan }
+
+        home_goes : (h : Bool) (P : List ℕ → Type 0) → P plan → Goes (then_some h end) P
+        home_goes true P p = p
+        home_goes false P p = tt
+
+        ended : (b : Option C) (h : Bool) → spent_up S b spot.sofar ≡ false → cost_of (then_some h end) ≡ cut S b (with S spot.sofar (cond h (Some S.nothing) None))
         ended b false u = sym (cut_none S L b)
-        ended None true u = ap Some (sym (L.join_nothing sofar (omega (arith, R.size))))
+        ended None true u = ap Some (sym (L.join_nothing spot.sofar (omega (arith, R.size))))
         ended (Some b) true u =
-            let n : S.join sofar S.nothing ≡ sofar = L.join_nothing sofar (omega (arith, R.size)) in
-            let t : S.lower sofar b ≡ true = not-false _ u in
-            sym (ap (λ c. cond (S.lower c b) (Some c) None) n ∙ ap (λ y. cond y (Some sofar) None) t)
+            let n : S.join spot.sofar S.nothing ≡ spot.sofar = L.join_nothing spot.sofar (omega (arith, R.size)) in
+            let t : S.lower spot.sofar b ≡ true = not-false _ u in
+            sym (ap (λ c. cond (S.lower c b) (Some c) None) n ∙ ap (λ y. cond y (Some spot.sofar) None) t)

@@ -1,42 +1,36 @@
 ghost use Rattle.std.specs.Prelude.{◌≡◌, ◌≤◌};
 ghost use Rattle.sheets.specs.Inquiry.{trains};
-ghost use Rattle.std.proofs.Common.{rules, arith};
+ghost use Rattle.walk.specs.OneTrain.{one_train_lem};
 
 use crate::explore::best_of;
 use crate::walk::Walk;
 use rules::rule::Rule;
 use scales::scale::Scale;
-use search::answer::Answer;
+use search::answer::{Answer, Unplanned};
 use search::search::Search;
-use sheets::question::Question;
+use sheets::asked::Asked;
 use sheets::sheet::Sheet;
+use words::board::Board;
 use words::choose::choose;
-use words::written::write;
+use words::written::answer;
 
 impl<S: Scale> Search<S> for Walk {
     // it takes the groups up to its greatest, and uses no cell
     ghost takes = { λ w i _. trains i ≤ w.most };
 
-    ghost one_train = { first_of (Prim.search rules, Prim.grind (arith, Self.row.coded.inj)) };
+    ghost one_train = { λ w i cells h. one_train_lem w i cells h };
 
     fn search<R: Rule>(
         &mut self,
-        rule: &R,
-        scale: &S,
-        question: &Question,
+        asked: &Asked<R, S>,
         _cells: &mut [Option<S::Cost>],
         sheet: &mut Sheet,
     ) -> Answer<S::Cost> {
-        let chosen = choose(question);
+        let chosen = choose(asked.question);
         if chosen.trains > self.most {
-            return Answer::BeyondReach;
+            return Err(Unplanned::BeyondReach);
         }
-        match best_of(rule, scale, question, chosen) {
-            None => Answer::NoSheet,
-            Some(found) => {
-                write(sheet, chosen, found.plan, question.steps);
-                Answer::Found(found.cost)
-            }
-        }
+        let board = Board::of(asked, &chosen);
+        answer(asked, &chosen, best_of(&board), sheet)
     }
 }

@@ -1,91 +1,71 @@
-ghost use Rattle.std.specs.Prelude.{◌≡◌};
-ghost use Rattle.roster.specs.Model.{rows_of};
-ghost use Rattle.words.specs.Rows.{ChosenTo};
-ghost use Rattle.words.specs.Tasks.{task_of, Solution};
-ghost use Rattle.walk.specs.Walks.{Ready, Walked};
+ghost use Rattle.std.specs.Prelude.{◌≡◌, ◌<◌};
+ghost use Rattle.words.specs.Tasks.{task, Solution};
+ghost use Rattle.walk.specs.Walks.{Ready, Walked, put_at};
 
-use crate::bounds::{arrived, nearer, newer, put, spent_up};
+use crate::spot::Spot;
 use rules::rule::Rule;
 use scales::scale::Scale;
-use sheets::question::Question;
 use words::board::Board;
-use words::chosen::Chosen;
 use words::found::Found;
-use words::moves::{all_home, may_move, move_price};
+
+// The section x written into the plan that was found.
+fn put<C: Copy>(found: Option<Found<C>>, place: usize, x: u8) -> Option<Found<C>>
+    requires { place < 128 }
+    ensures the_section_is_written { result ≡ put_at place x found }
+{
+    found.map(|f| {
+        let mut plan = f.plan;
+        plan[place] = x;
+        Found { plan, ..f }
+    })
+}
 
 // Of the sheets that go on from here, the first of the least, if with what is spent so far it costs less than the bound.
 fn explore<S: Scale, R: Rule>(
     board: &Board<S, R>,
-    at: [u8; 8],
-    to: [u8; 8],
-    j: usize,
-    left: usize,
-    place: usize,
-    sofar: S::Cost,
+    spot: Spot<S::Cost>,
     bound: Option<S::Cost>,
 ) -> Option<Found<S::Cost>>
-    requires { Ready (S.Scale.measure board.now.scale.now) (task_of (R.Rule.conflicts board.now.rule.now board.now.layout.now) board.now.layout.now board.now.roster.now board.now.trains board.now.goal) left j place sofar }
-    ensures the_best_that_stays_below_the_bound { Walked (S.Scale.measure board.now.scale.now) (task_of (R.Rule.conflicts board.now.rule.now board.now.layout.now) board.now.layout.now board.now.roster.now board.now.trains board.now.goal) left j place at to sofar bound result }
+    requires { Ready (S.Scale.measure board.now.scale.now) (task R.Rule.conflicts board.now) spot }
+    ensures the_best_that_stays_below_the_bound { Walked (S.Scale.measure board.now.scale.now) (task R.Rule.conflicts board.now) spot bound result }
 {
-    if spent_up(board.scale, bound, sofar) {
+    if bound.is_some_and(|b| !board.scale.lower(spot.sofar, b)) {
         return None;
     }
-    if j == board.trains {
-        if left > 0 {
-            return explore(board, to, [0; 8], 0, left - 1, place, sofar, bound);
+    if spot.moved == board.trains {
+        if spot.left > 0 {
+            return explore(board, spot.next_step(), bound);
         }
-        return arrived(all_home(board, to), sofar);
+        let end = Found {
+            cost: spot.sofar,
+            plan: [0; 128],
+        };
+        return board.all_home(spot.to).then_some(end);
     }
-    let mut best = None;
+    let mut best: Option<Found<S::Cost>> = None;
     for x in 0..board.layout.sections() {
-        if may_move(board, at, to, j, x) {
-            let price = move_price(board, at, j, x);
-            let mut next = to;
-            next[j] = x;
-            let found = explore(
-                board,
-                at,
-                next,
-                j + 1,
-                left,
-                place + 1,
-                board.scale.join(sofar, price),
-                nearer(best, bound),
-            );
-            best = newer(put(found, place, x), best);
+        if board.may_move(spot.at, spot.to, spot.moved, x) {
+            let price = board.move_price(spot.at, spot.moved, x);
+            let next = spot.after(x, board.scale.join(spot.sofar, price));
+            let nearer = best.map(|f| f.cost).or(bound);
+            let found = explore(board, next, nearer);
+            best = put(found, spot.place, x).or(best);
         }
     }
     best
 }
 
 // The first of the least of the group's sheets.
-pub(crate) fn best_of<S: Scale, R: Rule>(
-    rule: &R,
-    scale: &S,
-    question: &Question,
-    chosen: Chosen,
-) -> Option<Found<S::Cost>>
-    requires { ChosenTo question.now (rows_of question.now.roster.now) chosen }
-    ensures the_least_cost_and_the_first_word_of_it { Solution (S.Scale.measure scale.now) (task_of (R.Rule.conflicts rule.now question.now.layout.now) question.now.layout.now question.now.roster.now chosen.trains chosen.goal) question.now.steps chosen.start result }
+pub(crate) fn best_of<S: Scale, R: Rule>(board: &Board<S, R>) -> Option<Found<S::Cost>>
+    ensures the_least_cost_and_the_first_word_of_it { Solution (S.Scale.measure board.now.scale.now) (task R.Rule.conflicts board.now) board.now.steps board.now.start result }
 {
-    let goal = chosen.goal;
-    let start = chosen.start;
-    let board = Board {
-        scale,
-        rule,
-        layout: question.layout,
-        roster: question.roster,
-        trains: chosen.trains,
-        goal,
+    let first = Spot {
+        at: board.start,
+        to: [0; 8],
+        moved: 0,
+        left: board.steps - 1,
+        place: 0,
+        sofar: board.scale.nothing(),
     };
-    explore(
-        &board,
-        start,
-        [0; 8],
-        0,
-        question.steps - 1,
-        0,
-        scale.nothing(),
-        None,
-    )
+    explore(board, first, None)
 }

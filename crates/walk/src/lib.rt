@@ -2,7 +2,7 @@
 #![tactic(auto)]
 
 pub mod as_search;
-pub mod bounds;
 pub mod explore;
 pub mod make;
+pub mod spot;
 pub mod walk;

@@ -1,18 +1,14 @@
 use Rattle.std.proofs.Common.{refl}
-use Rattle.sheets.proofs.Posed.{sound}
 use Rattle.walk.proofs.Whole.{ready, solution}
 use Rattle.walk.proofs.explore.best_of.Goals as goal
 
-pub overflow_sub-question : goal.overflow_sub-question
-overflow_sub-question g c = (sound c.args.question.now).steps_some
-
 pub explore-requires : goal.explore-requires
 explore-requires g c =
-    ready (g.R.Rule.conflicts c.args.rule.now) c.args.question.now c.args.chosen c.requires (g.S.Scale.measure c.args.scale.now) (g.met.S.Scale.lawful c.args.scale.now)
-    (g.met.R.Rule.lawful c.args.rule.now c.args.question.now.layout.now) c.nothing.result c.nothing.ensures.the_cost_of_no_step
+    ready g.R.Rule.conflicts c.args.board.now (g.S.Scale.measure c.args.board.now.scale.now) (g.met.S.Scale.lawful c.args.board.now.scale.now) _ c.nothing.result c.nothing.ensures.the_cost_of_no_step
 
 pub returns : goal.returns
-returns g c = record {
-  the_least_cost_and_the_first_word_of_it = (solution (g.R.Rule.conflicts c.args.rule.now) c.args.question.now c.args.chosen c.requires (g.S.Scale.measure c.args.scale.now) (g.met.S.Scale.lawful c.args.scale.now)
-      (g.met.R.Rule.lawful c.args.rule.now c.args.question.now.layout.now) _ c.nothing.result c.explore.result c.nothing.ensures.the_cost_of_no_step refl c.explore.ensures.the_best_that_stays_below_the_bound);
-}
+returns g c =
+    record {
+      the_least_cost_and_the_first_word_of_it = solution g.R.Rule.conflicts c.args.board.now (g.S.Scale.measure c.args.board.now.scale.now) (g.met.S.Scale.lawful c.args.board.now.scale.now)
+          _ c.nothing.result c.explore.result c.nothing.ensures.the_cost_of_no_step refl c.explore.ensures.the_best_that_stays_below_the_bound;
+    }
