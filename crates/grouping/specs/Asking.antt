@@ -1,17 +1,16 @@
 -- What the grouping keeps while it asks below.
-use Rattle.std.specs.Prelude.{◌≡◌, ℕ, ◌<◌, Bool, true, List}
+use Rattle.std.specs.Prelude.{◌≡◌, ℕ, ◌<◌, Bool, true, List, Ok, Err, Result}
 use Rattle.roster.specs.Model.{rows_of}
 use Rattle.sheets.specs.Posing.{marked}
 use Rattle.sheets.specs.Plan.{Plan, SameOn}
 use Rattle.sheets.specs.Inquiry.{Inquiry, plan_of}
 use Rattle.sheets.specs.declared.question.Question.{Question}
 use Rattle.sheets.specs.declared.sheet.Sheet.{Sheet}
-use Rattle.search.specs.declared.answer.Answer.{Answer}
-use Rattle.search.specs.declared.answer.Answer.TheVariants.{BeyondReach, NoSheet, Found}
+use Rattle.search.specs.declared.answer.Unplanned.{Unplanned}
 use Rattle.groups.specs.Parts.{Naming}
-use Rattle.groups.specs.Course.{beyond, none, found}
+use Rattle.groups.specs.Course.{found}
 use Rattle.groups.specs.Onward.{Reached}
-use Rattle.grouping.specs.Ends.{about, Ends}
+use Rattle.grouping.specs.Ends.{about, ending, Ends}
 
 -- the marks are of some rows of the question's group
 pub record SomeRows (q : Question) (marks : List Bool) : Type 0 where
@@ -21,10 +20,9 @@ pub record SomeRows (q : Question) (marks : List Bool) : Type 0 where
   pub is_marked : marked marks row ≡ true
 
 -- the course has ended without a sheet, as is told; or this holds of what was found
-abbrev pub OrEnds : {C A : Type 0} → (takes : Inquiry C → ℕ → Type 0) → Inquiry C → (cells : ℕ) → (A → Type 0) → Answer A → Type 0
-OrEnds takes i cells P BeyondReach = Ends takes i cells beyond
-OrEnds takes i cells P NoSheet = Ends takes i cells none
-OrEnds takes i cells P (Found a) = P a
+abbrev pub OrEnds : {C A : Type 0} → (takes : Inquiry C → ℕ → Type 0) → Inquiry C → (cells : ℕ) → (A → Type 0) → Result A Unplanned → Type 0
+OrEnds takes i cells P (Err why) = Ends takes i cells (ending why)
+OrEnds takes i cells P (Ok a) = P a
 
 -- the parts have been asked for, and stand in the sheet
 abbrev pub Stand : {C : Type 0} → (takes : Inquiry C → ℕ → Type 0) → Inquiry C → (cells : ℕ) → Naming → Sheet → Type 0

@@ -1,12 +1,12 @@
 -- How the course of the grouping ends for an inquiry, and what is told of it.
-use Rattle.std.specs.Prelude.{◌≡◌, ℕ}
+use Rattle.std.specs.Prelude.{◌≡◌, ℕ, Ok, Err, Result}
 use Rattle.sheets.specs.Problem.{Group}
 use Rattle.sheets.specs.Plan.{Plan, SameOn, cost}
 use Rattle.sheets.specs.Inquiry.{Inquiry, plan_of}
 use Rattle.sheets.specs.declared.sheet.Sheet.{Sheet}
 use Rattle.search.specs.Answers.{OthersKept}
-use Rattle.search.specs.declared.answer.Answer.{Answer}
-use Rattle.search.specs.declared.answer.Answer.TheVariants.{BeyondReach, NoSheet, Found}
+use Rattle.search.specs.declared.answer.Unplanned.{Unplanned}
+use Rattle.search.specs.declared.answer.Unplanned.TheVariants.{BeyondReach, NoSheet}
 use Rattle.groups.specs.Course.{Outcome, beyond, none, found, Whole}
 use Rattle.groups.specs.Laws.{ACourseHasOneOutcome, ACourseExistsWhereTakingIsDecided, ACourseIsRight, PartsApartAreBestTogether, APartWithoutASheetLeavesNone}
 
@@ -34,11 +34,15 @@ pub record Given {C : Type 0} (takes : Inquiry C → ℕ → Type 0) (i : Inquir
   pub costs : cost i.measure i.problem i.group (plan_of new) ≡ c
   pub others : OthersKept i old new
 
+-- how the course ends where there is no sheet
+abbrev pub ending : Unplanned → Outcome
+ending BeyondReach = beyond
+ending NoSheet = none
+
 -- what is told is how the course ends, and the sheet is untouched unless one is given
-abbrev pub Told : {C : Type 0} → (takes : Inquiry C → ℕ → Type 0) → Inquiry C → (cells : ℕ) → (old new : Sheet) → Answer (C × ℕ) → Type 0
-Told takes i cells old new BeyondReach = Ends takes i cells beyond × (new ≡ old)
-Told takes i cells old new NoSheet = Ends takes i cells none × (new ≡ old)
-Told takes i cells old new (Found p) = Given takes i cells old new p.0 p.1
+abbrev pub Told : {C : Type 0} → (takes : Inquiry C → ℕ → Type 0) → Inquiry C → (cells : ℕ) → (old new : Sheet) → Result (C × ℕ) Unplanned → Type 0
+Told takes i cells old new (Err why) = Ends takes i cells (ending why) × (new ≡ old)
+Told takes i cells old new (Ok p) = Given takes i cells old new p.0 p.1
 
 -- what holds of every course for the inquiry, whichever groups are taken below
 abbrev pub OneOutcome : {C : Type 0} → (takes : Inquiry C → ℕ → Type 0) → Inquiry C → (cells : ℕ) → Type 0

@@ -1,5 +1,5 @@
 -- What each answer of the search below does to the course.
-use Rattle.std.specs.Prelude.{◌≡◌, ℕ, ◌+◌, ◌<◌, true, false, ◌≢◌, refl}
+use Rattle.std.specs.Prelude.{◌≡◌, ℕ, ◌+◌, ◌<◌, true, false, ◌≢◌, Ok, Err, Result, refl}
 use Rattle.std.proofs.Common.{sym, ◌∙◌, ap, subst, arith, add-one}
 use Rattle.std.proofs.lemmas.Bool.{both_ways}
 use Rattle.sheets.specs.Problem.{Problem, Group, Member}
@@ -7,15 +7,15 @@ use Rattle.sheets.specs.Theorems.{Same}
 use Rattle.sheets.specs.Inquiry.{Inquiry, plan_of}
 use Rattle.sheets.specs.declared.sheet.Sheet.{Sheet}
 use Rattle.search.specs.Answers.{Answered, OthersKept}
-use Rattle.search.specs.declared.answer.Answer.{Answer}
-use Rattle.search.specs.declared.answer.Answer.TheVariants.{BeyondReach, NoSheet, Found}
+use Rattle.search.specs.declared.answer.Unplanned.{Unplanned}
+use Rattle.search.specs.declared.answer.Unplanned.TheVariants.{BeyondReach, NoSheet}
 use Rattle.groups.specs.Parts.{Naming, Names, part, alone, merged, union, parts, NoClash, FirstClash}
-use Rattle.groups.specs.Course.{Outcome, beyond, none}
+use Rattle.groups.specs.Course.{Outcome}
 use Rattle.groups.specs.Onward.{Opened}
 use Rattle.groups.proofs.Right.{part_rows, alone_names, merged_names, merged_out}
 use Rattle.groups.proofs.Fewer.{merged_fewer}
 use Rattle.groups.proofs.Onward.{KeptBut, opened_start, opened_pass, opened_not_taken, opened_none, opened_next, reached_start, reached_not_taken, reached_none, reached_next, reached_end}
-use Rattle.grouping.specs.Ends.{about, Ends}
+use Rattle.grouping.specs.Ends.{about, ending, Ends}
 use Rattle.grouping.specs.Asking.{Stand, EndsIn}
 
 -- two meanings are one
@@ -62,11 +62,11 @@ module _ {C : Type 0} (was now : Inquiry C → ℕ → Type 0) (i : Inquiry C) (
     pub others : OthersKept i old z
 
 -- an answer of a search that takes `now` about some rows
-abbrev pub About : {C : Type 0} → (now : Inquiry C → ℕ → Type 0) → Inquiry C → (cells : ℕ) → Group → (y z : Sheet) → Answer C → Type 0
+abbrev pub About : {C : Type 0} → (now : Inquiry C → ℕ → Type 0) → Inquiry C → (cells : ℕ) → Group → (y z : Sheet) → Result C Unplanned → Type 0
 About now i cells F y z r = Answered (about i F) (now (about i F) cells) y z r
 
 -- the worksheet is as long as it was
-pub as_long : {C : Type 0} (now : Inquiry C → ℕ → Type 0) (i : Inquiry C) (long cells : ℕ) (F : Group) (y z : Sheet) (r : Answer C) → long ≡ cells
+pub as_long : {C : Type 0} (now : Inquiry C → ℕ → Type 0) (i : Inquiry C) (long cells : ℕ) (F : Group) (y z : Sheet) (r : Result C Unplanned) → long ≡ cells
     → About now i long F y z r → About now i cells F y z r
 as_long now i long cells F y z r e h = subst (λ (k : ℕ). About now i k F y z r) e h
 
@@ -88,27 +88,25 @@ module _ {C : Type 0} (was now next : Inquiry C → ℕ → Type 0) (asked : Sam
 
   -- ---- each train alone
   module _ (k : ℕ) (y z : Sheet) (h : RowsAsked was now i cells old k y) (l : k < Q.rows) (g : G k ≡ true) (F : Group) (e : F ≡ part G alone k) where
-    pub row_beyond : About now i cells F y z BeyondReach → Ended was next i cells old z beyond
-    row_beyond a =
-        let b = subst (λ (E : Group). About now i cells E y z BeyondReach) e a in
+    pub row_ended : (why : Unplanned) → About now i cells F y z (Err why) → Ended was next i cells old z (ending why)
+    row_ended BeyondReach a =
+        let b = subst (λ (E : Group). About now i cells E y z (Err BeyondReach)) e a in
         record {
           meaning = same_trans next now was asked h.meaning;
           ends = opened_not_taken i.measure Q G Taken k (plan_of y) h.opened l g (λ t. b.0 ((h.meaning _ cells).back t));
           others = others_untouched i old y z b.1 h.others;
         }
-
-    pub row_none : About now i cells F y z NoSheet → Ended was next i cells old z none
-    row_none a =
-        let b = subst (λ (E : Group). About now i cells E y z NoSheet) e a in
+    row_ended NoSheet a =
+        let b = subst (λ (E : Group). About now i cells E y z (Err NoSheet)) e a in
         record {
           meaning = same_trans next now was asked h.meaning;
           ends = opened_none i.measure Q G Taken k (plan_of y) h.opened l g ((h.meaning _ cells).to b.0) b.2;
           others = others_untouched i old y z b.1 h.others;
         }
 
-    pub row_next : (c : C) → About now i cells F y z (Found c) → RowsAsked was next i cells old (k + 1) z
+    pub row_next : (c : C) → About now i cells F y z (Ok c) → RowsAsked was next i cells old (k + 1) z
     row_next c a =
-        let b = subst (λ (E : Group). About now i cells E y z (Found c)) e a in
+        let b = subst (λ (E : Group). About now i cells E y z (Ok c)) e a in
         record {
           meaning = same_trans next now was asked h.meaning;
           opened = rw add-one (opened_next i.measure Q G Taken k (plan_of y) (plan_of z) h.opened l g ((h.meaning _ cells).to b.0) b.1.best (kept_but i (part G alone k) y z b.1.others));
@@ -125,27 +123,25 @@ module _ {C : Type 0} (was now next : Inquiry C → ℕ → Type 0) (asked : Sam
     to_union : F ≡ union G name r q
     to_union = w ∙ joined_union name after r q f.differ e
 
-    pub part_beyond : About now i cells F y z BeyondReach → Ended was next i cells old z beyond
-    part_beyond a =
-        let b = subst (λ (E : Group). About now i cells E y z BeyondReach) to_union a in
+    pub part_ended : (why : Unplanned) → About now i cells F y z (Err why) → Ended was next i cells old z (ending why)
+    part_ended BeyondReach a =
+        let b = subst (λ (E : Group). About now i cells E y z (Err BeyondReach)) to_union a in
         record {
           meaning = same_trans next now was asked h.meaning;
           ends = reached_not_taken i.measure Q G Taken name (plan_of y) t r q h.stand f (λ v. b.0 ((h.meaning _ cells).back v));
           others = others_untouched i old y z b.1 h.others;
         }
-
-    pub part_none : About now i cells F y z NoSheet → Ended was next i cells old z none
-    part_none a =
-        let b = subst (λ (E : Group). About now i cells E y z NoSheet) to_union a in
+    part_ended NoSheet a =
+        let b = subst (λ (E : Group). About now i cells E y z (Err NoSheet)) to_union a in
         record {
           meaning = same_trans next now was asked h.meaning;
           ends = reached_none i.measure Q G Taken name (plan_of y) t r q h.stand f ((h.meaning _ cells).to b.0) b.2;
           others = others_untouched i old y z b.1 h.others;
         }
 
-    pub part_next : (c : C) → About now i cells F y z (Found c) → PartsAsked was next i cells old after z
+    pub part_next : (c : C) → About now i cells F y z (Ok c) → PartsAsked was next i cells old after z
     part_next c a =
-        let b = subst (λ (E : Group). About now i cells E y z (Found c)) to_union a in
+        let b = subst (λ (E : Group). About now i cells E y z (Ok c)) to_union a in
         subst (λ (m : Naming). PartsAsked was next i cells old m z) (sym e)
         (record {
           meaning = same_trans next now was asked h.meaning;

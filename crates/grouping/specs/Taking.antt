@@ -1,22 +1,24 @@
 -- Which groups the grouping takes, and what its answers say of the group.
-use Rattle.std.specs.Prelude.{◌≡◌, ℕ, zero, suc, ◌+◌, ◌<◌, ◌≤◌, Bool, true, false, cond, ◌&&◌, ◌⊎◌, ◌==◌, ◌≢◌}
+use Rattle.std.specs.Prelude.{◌≡◌, ℕ, zero, suc, ◌+◌, ◌<◌, ◌≤◌, Bool, true, false, cond, ◌&&◌, ◌⊎◌, ◌==◌, ◌≢◌, Err}
 use Rattle.std.proofs.Math.Path.{refl}
 use Rattle.std.proofs.Common.{sym, ◌∙◌, ap, inl, inr, arith}
 use Rattle.std.proofs.lemmas.Bool.{cases_eq, eq-eqb, ne_eqb, and_from, and_right, both_ways}
 use Rattle.scales.specs.Measure.{MeasureLaws}
 use Rattle.sheets.specs.Problem.{ProblemLaws, Group, count}
-use Rattle.sheets.specs.Plan.{Plan, Without}
+use Rattle.sheets.specs.Plan.{Plan}
 use Rattle.sheets.specs.Inquiry.{Inquiry, plan_of}
 use Rattle.sheets.specs.declared.sheet.Sheet.{Sheet}
 use Rattle.sheets.proofs.Sheets.{best_same}
-use Rattle.search.specs.Answers.{OneTrain, Solved}
+use Rattle.search.specs.Answers.{OneTrain, Answered, Solved}
+use Rattle.search.specs.declared.answer.Unplanned.{Unplanned}
+use Rattle.search.specs.declared.answer.Unplanned.TheVariants.{BeyondReach, NoSheet}
 use Rattle.groups.specs.Parts.{Naming, part, alone, FirstClash}
 use Rattle.groups.specs.Course.{Outcome, beyond, none, found, Course, Opening}
 use Rattle.groups.specs.Laws.{Agree}
 use Rattle.groups.proofs.Once.{a_course_has_one_outcome}
 use Rattle.groups.proofs.Right.{a_course_is_right}
 use Rattle.groups.proofs.Moved.{whole_moved}
-use Rattle.grouping.specs.Ends.{about, taken, Ends, NeverBeyond, Given}
+use Rattle.grouping.specs.Ends.{about, taken, ending, Ends, NeverBeyond, Given}
 use Rattle.grouping.specs.Following.{SameMeaning}
 
 -- ---- a group of one train
@@ -97,8 +99,9 @@ module _ {C : Type 0} (takes : Inquiry C → ℕ → Type 0) (i : Inquiry C) (L 
   once : (o p : Outcome) → Ends takes i cells o → Ends takes i cells p → Agree i.problem i.group o p
   once o p a b = a_course_has_one_outcome i.measure L i.problem K i.group (taken takes i cells) o p a b
 
-  pub none_answered : Ends takes i cells none → NeverBeyond takes i cells × Without i.problem i.group
-  none_answered e = ((λ b. once none beyond e b), a_course_is_right i.measure L i.problem K i.group (taken takes i cells) none e)
+  pub ended_answered : (old new : Sheet) (why : Unplanned) → Ends takes i cells (ending why) × (new ≡ old) → Answered i (NeverBeyond takes i cells) old new (Err why)
+  ended_answered old new BeyondReach h = ((λ never. never h.0), h.1)
+  ended_answered old new NoSheet h = ((λ b. once none beyond h.0 b), h.1, a_course_is_right i.measure L i.problem K i.group (taken takes i cells) none h.0)
 
   pub found_answered : (old new : Sheet) (c : C) (n : ℕ) → Given takes i cells old new c n → NeverBeyond takes i cells × Solved i old new c
   found_answered old new c n h = (

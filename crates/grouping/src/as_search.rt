@@ -8,7 +8,7 @@ use rules::rule::Rule;
 use scales::scale::Scale;
 use search::answer::Answer;
 use search::search::Search;
-use sheets::question::Question;
+use sheets::asked::Asked;
 use sheets::sheet::Sheet;
 
 impl<S: Scale, Q: Search<S>> Search<S> for Grouping<Q> {
@@ -19,16 +19,11 @@ impl<S: Scale, Q: Search<S>> Search<S> for Grouping<Q> {
 
     fn search<R: Rule>(
         &mut self,
-        rule: &R,
-        scale: &S,
-        question: &Question,
+        asked: &Asked<R, S>,
         cells: &mut [Option<S::Cost>],
         sheet: &mut Sheet,
     ) -> Answer<S::Cost> {
-        match follow(&mut self.below, rule, scale, question, cells, sheet) {
-            Answer::BeyondReach => Answer::BeyondReach,
-            Answer::NoSheet => Answer::NoSheet,
-            Answer::Found((cost, _groups)) => Answer::Found(cost),
-        }
+        let (cost, _) = follow(&mut self.below, asked, cells, sheet)?;
+        Ok(cost)
     }
 }

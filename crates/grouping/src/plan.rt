@@ -1,5 +1,5 @@
 ghost use Rattle.std.specs.Prelude.{◌≡◌, ℕ, length};
-ghost use Rattle.sheets.specs.Inquiry.{Inquiry, inquiry};
+ghost use Rattle.sheets.specs.Inquiry.{Inquiry, inquired};
 ghost use Rattle.sheets.specs.Theorems.{Same};
 ghost use Rattle.grouping.specs.Ends.{Told, OneOutcome, ExistsWhereDecided, RightForAll, BestTogether, NoneForAll};
 
@@ -9,7 +9,7 @@ use rules::rule::Rule;
 use scales::scale::Scale;
 use search::answer::Answer;
 use search::search::Search;
-use sheets::question::Question;
+use sheets::asked::Asked;
 use sheets::sheet::Sheet;
 
 impl<Q> Grouping<Q> {
@@ -23,22 +23,20 @@ impl<Q> Grouping<Q> {
     // Plans the question's group by the course of the grouping: the cost of the best sheet, which is written, and the number of groups reached.
     pub fn plan<S: Scale, R: Rule>(
         &mut self,
-        rule: &R,
-        scale: &S,
-        question: &Question,
+        asked: &Asked<R, S>,
         cells: &mut [Option<S::Cost>],
         sheet: &mut Sheet,
     ) -> Answer<(S::Cost, usize)>
     where
         Q: Search<S>,
         ensures asking_leaves_the_meaning { (i : Inquiry S.Cost) (n : ℕ) → Same (Q.Search.takes self.new.below i n) (Q.Search.takes self.old.below i n) }
-        ensures the_answer_is_how_the_course_ends { Told (Q.Search.takes self.old.below) (inquiry (R.Rule.conflicts rule.now) (S.Scale.measure scale.now) question.now) (length cells.old) sheet.old sheet.new result }
-        ensures a_course_has_one_outcome { OneOutcome (Q.Search.takes self.old.below) (inquiry (R.Rule.conflicts rule.now) (S.Scale.measure scale.now) question.now) (length cells.old) }
-        ensures a_course_exists_where_taking_is_decided { ExistsWhereDecided (Q.Search.takes self.old.below) (inquiry (R.Rule.conflicts rule.now) (S.Scale.measure scale.now) question.now) (length cells.old) }
-        ensures what_a_course_ends_with_is_right_for_the_whole_group { RightForAll (Q.Search.takes self.old.below) (inquiry (R.Rule.conflicts rule.now) (S.Scale.measure scale.now) question.now) (length cells.old) }
-        ensures best_sheets_of_groups_that_do_not_conflict_are_together_the_best { BestTogether (inquiry (R.Rule.conflicts rule.now) (S.Scale.measure scale.now) question.now) }
-        ensures where_some_of_the_trains_have_no_lawful_sheet_all_have_none { NoneForAll (inquiry (R.Rule.conflicts rule.now) (S.Scale.measure scale.now) question.now) }
+        ensures the_answer_is_how_the_course_ends { Told (Q.Search.takes self.old.below) (inquired R.Rule.conflicts S.Scale.measure asked.now) (length cells.old) sheet.old sheet.new result }
+        ensures a_course_has_one_outcome { OneOutcome (Q.Search.takes self.old.below) (inquired R.Rule.conflicts S.Scale.measure asked.now) (length cells.old) }
+        ensures a_course_exists_where_taking_is_decided { ExistsWhereDecided (Q.Search.takes self.old.below) (inquired R.Rule.conflicts S.Scale.measure asked.now) (length cells.old) }
+        ensures what_a_course_ends_with_is_right_for_the_whole_group { RightForAll (Q.Search.takes self.old.below) (inquired R.Rule.conflicts S.Scale.measure asked.now) (length cells.old) }
+        ensures best_sheets_of_groups_that_do_not_conflict_are_together_the_best { BestTogether (inquired R.Rule.conflicts S.Scale.measure asked.now) }
+        ensures where_some_of_the_trains_have_no_lawful_sheet_all_have_none { NoneForAll (inquired R.Rule.conflicts S.Scale.measure asked.now) }
     {
-        follow(&mut self.below, rule, scale, question, cells, sheet)
+        follow(&mut self.below, asked, cells, sheet)
     }
 }

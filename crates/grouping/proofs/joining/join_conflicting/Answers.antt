@@ -1,67 +1,34 @@
 use Rattle.std.proofs.Common.{length, refl, arith}
 use Rattle.roster.proofs.Laws.{rows_most}
-use Rattle.search.specs.declared.answer.Answer.TheVariants.{BeyondReach, NoSheet, Found}
+use Rattle.std.proofs.lemmas.Result.{err_from_is_err_and}
+use Rattle.std.specs.Prelude.{Ok, Err}
 use Rattle.sheets.specs.Posing.{marked}
-use Rattle.sheets.specs.Inquiry.{inquiry}
+use Rattle.sheets.specs.Inquiry.{inquired}
 use Rattle.groups.specs.Model.{naming}
 use Rattle.grouping.proofs.Rows.{part_rows}
-use Rattle.grouping.specs.Following.{as_long, parts_first, part_beyond, part_none, part_next, parts_end, one_fewer}
+use Rattle.grouping.specs.Following.{as_long, parts_first, part_ended, part_next, parts_end, one_fewer}
 use Rattle.grouping.proofs.joining.join_conflicting.Goals as goal
 
 pub ask_for-requires : goal.ask_for-requires
 ask_for-requires g c =
     let f = c.in-Some.ensures.the_first_conflict_between_parts_or_none in
     record {
-      some_rows = part_rows c.args.question.now c.marks-marks.result (naming c.joined-parts.result) (naming c.joined-parts.result c.in-Some.conflict.row) c.in-Some.conflict.row
+      some_rows = part_rows c.args.asked.now.question.now c.marks-marks.result (naming c.joined-parts.result) (naming c.joined-parts.result c.in-Some.conflict.row) c.in-Some.conflict.row
           c.marks-marks.ensures.the_rows_of_its_part f.row.a_row f.row.of_group refl;
     }
 
 pub loop-conflict-init : goal.loop-conflict-init
 loop-conflict-init g c =
-    parts_first (g.Q.Search.takes c.args.below.now) (inquiry (g.R.Rule.conflicts c.args.rule.now) (g.S.Scale.measure c.args.scale.now) c.args.question.now) (length c.args.cells.now) c.args.draft.now
+    parts_first (g.Q.Search.takes c.args.below.now) (inquired g.R.Rule.conflicts g.S.Scale.measure c.args.asked.now) (length c.args.cells.now) c.args.draft.now
     (naming c.alone-parts.result) c.alone-parts.ensures.each_row_is_a_part c.requires.each_alone_stands
-
-pub returns-in-BeyondReach : goal.returns-in-BeyondReach
-returns-in-BeyondReach g c =
-    let q = c.args.question.now in
-    let was = g.Q.Search.takes c.args.below.now in
-    let now = g.Q.Search.takes c.loop-conflict.below in
-    let next = g.Q.Search.takes c.ask_for.new.below in
-    let i = inquiry (g.R.Rule.conflicts c.args.rule.now) (g.S.Scale.measure c.args.scale.now) q in
-    let k = c.in-Some.conflict in
-    let f = c.in-Some.ensures.the_first_conflict_between_parts_or_none in
-    let most = rows_most q.roster.now in
-    let e = c.joined-parts.ensures.the_two_parts_are_one (omega (arith, f.row.a_row)) (omega (arith, f.other.a_row)) in
-    let z =
-    part_beyond was now next c.ask_for.ensures.asking_leaves_the_meaning i (length c.args.cells.now) c.args.draft.now (naming c.loop-conflict.parts) (naming c.joined-parts.result) c.loop-conflict.draft c.ask_for.new.draft
-    c.loop-conflict.invariant k.step k.row k.other f e (marked c.marks-marks.result) c.marks-marks.ensures.the_rows_of_its_part
-    (as_long now i (length c.loop-conflict.cells) (length c.args.cells.now) _ _ _ BeyondReach c.loop-conflict.auto.cells c.in-BeyondReach.ensures.the_answer_is_right) in
-    record { asking_leaves_the_meaning = z.meaning; so_many_groups_stand_or_the_course_has_ended = z.ends; other_places_are_as_they_were = z.others }
-
-pub returns-in-NoSheet : goal.returns-in-NoSheet
-returns-in-NoSheet g c =
-    let q = c.args.question.now in
-    let was = g.Q.Search.takes c.args.below.now in
-    let now = g.Q.Search.takes c.loop-conflict.below in
-    let next = g.Q.Search.takes c.ask_for.new.below in
-    let i = inquiry (g.R.Rule.conflicts c.args.rule.now) (g.S.Scale.measure c.args.scale.now) q in
-    let k = c.in-Some.conflict in
-    let f = c.in-Some.ensures.the_first_conflict_between_parts_or_none in
-    let most = rows_most q.roster.now in
-    let e = c.joined-parts.ensures.the_two_parts_are_one (omega (arith, f.row.a_row)) (omega (arith, f.other.a_row)) in
-    let z =
-    part_none was now next c.ask_for.ensures.asking_leaves_the_meaning i (length c.args.cells.now) c.args.draft.now (naming c.loop-conflict.parts) (naming c.joined-parts.result) c.loop-conflict.draft c.ask_for.new.draft
-    c.loop-conflict.invariant k.step k.row k.other f e (marked c.marks-marks.result) c.marks-marks.ensures.the_rows_of_its_part
-    (as_long now i (length c.loop-conflict.cells) (length c.args.cells.now) _ _ _ NoSheet c.loop-conflict.auto.cells c.in-NoSheet.ensures.the_answer_is_right) in
-    record { asking_leaves_the_meaning = z.meaning; so_many_groups_stand_or_the_course_has_ended = z.ends; other_places_are_as_they_were = z.others }
 
 pub loop-conflict-smaller : goal.loop-conflict-smaller
 loop-conflict-smaller g c =
-    let q = c.args.question.now in
+    let q = c.args.asked.now.question.now in
     let was = g.Q.Search.takes c.args.below.now in
     let now = g.Q.Search.takes c.loop-conflict.below in
     let next = g.Q.Search.takes c.ask_for.new.below in
-    let i = inquiry (g.R.Rule.conflicts c.args.rule.now) (g.S.Scale.measure c.args.scale.now) q in
+    let i = inquired g.R.Rule.conflicts g.S.Scale.measure c.args.asked.now in
     let k = c.in-Some.conflict in
     let f = c.in-Some.ensures.the_first_conflict_between_parts_or_none in
     let most = rows_most q.roster.now in
@@ -71,23 +38,40 @@ loop-conflict-smaller g c =
 
 pub loop-conflict-preserved : goal.loop-conflict-preserved
 loop-conflict-preserved g c =
-    let q = c.args.question.now in
+    let q = c.args.asked.now.question.now in
     let was = g.Q.Search.takes c.args.below.now in
     let now = g.Q.Search.takes c.loop-conflict.below in
     let next = g.Q.Search.takes c.ask_for.new.below in
-    let i = inquiry (g.R.Rule.conflicts c.args.rule.now) (g.S.Scale.measure c.args.scale.now) q in
+    let i = inquired g.R.Rule.conflicts g.S.Scale.measure c.args.asked.now in
     let k = c.in-Some.conflict in
     let f = c.in-Some.ensures.the_first_conflict_between_parts_or_none in
     let most = rows_most q.roster.now in
     let e = c.joined-parts.ensures.the_two_parts_are_one (omega (arith, f.row.a_row)) (omega (arith, f.other.a_row)) in
     part_next was now next c.ask_for.ensures.asking_leaves_the_meaning i (length c.args.cells.now) c.args.draft.now (naming c.loop-conflict.parts) (naming c.joined-parts.result) c.loop-conflict.draft c.ask_for.new.draft
     c.loop-conflict.invariant k.step k.row k.other f e (marked c.marks-marks.result) c.marks-marks.ensures.the_rows_of_its_part _
-    (as_long now i (length c.loop-conflict.cells) (length c.args.cells.now) _ _ _ (Found _) c.loop-conflict.auto.cells c.in-Found.ensures.the_answer_is_right)
+    (as_long now i (length c.loop-conflict.cells) (length c.args.cells.now) _ _ _ (Ok _) c.loop-conflict.auto.cells c.in_ok-ask_for.ensures.the_answer_is_right)
+
+pub returns-in_err-ask_for : goal.returns-in_err-ask_for
+returns-in_err-ask_for g c =
+    let q = c.args.asked.now.question.now in
+    let was = g.Q.Search.takes c.args.below.now in
+    let now = g.Q.Search.takes c.loop-conflict.below in
+    let next = g.Q.Search.takes c.ask_for.new.below in
+    let i = inquired g.R.Rule.conflicts g.S.Scale.measure c.args.asked.now in
+    let k = c.in-Some.conflict in
+    let f = c.in-Some.ensures.the_first_conflict_between_parts_or_none in
+    let most = rows_most q.roster.now in
+    let e = c.joined-parts.ensures.the_two_parts_are_one (omega (arith, f.row.a_row)) (omega (arith, f.other.a_row)) in
+    let p = err_from_is_err_and c.from_residual.result c.from_residual.ensures.1 in
+    let z =
+    part_ended was now next c.ask_for.ensures.asking_leaves_the_meaning i (length c.args.cells.now) c.args.draft.now (naming c.loop-conflict.parts) (naming c.joined-parts.result) c.loop-conflict.draft c.ask_for.new.draft
+    c.loop-conflict.invariant k.step k.row k.other f e (marked c.marks-marks.result) c.marks-marks.ensures.the_rows_of_its_part _
+    (as_long now i (length c.loop-conflict.cells) (length c.args.cells.now) _ _ _ (Err _) c.loop-conflict.auto.cells c.in_err-ask_for.ensures.the_answer_is_right) in
+    record { asking_leaves_the_meaning = z.meaning; so_many_groups_stand_or_the_course_has_ended = rw (p.1, p.2) z.ends; other_places_are_as_they_were = z.others }
 
 pub returns : goal.returns
 returns g c =
-    let q = c.args.question.now in
-    let i = inquiry (g.R.Rule.conflicts c.args.rule.now) (g.S.Scale.measure c.args.scale.now) q in
+    let i = inquired g.R.Rule.conflicts g.S.Scale.measure c.args.asked.now in
     record {
       asking_leaves_the_meaning = c.loop-conflict.invariant.meaning;
       so_many_groups_stand_or_the_course_has_ended =

@@ -1,5 +1,5 @@
 use Rattle.std.proofs.Common.{length}
-use Rattle.sheets.specs.Inquiry.{inquiry}
+use Rattle.sheets.specs.Inquiry.{inquired}
 use Rattle.sheets.proofs.Posed.{laws_of}
 use Rattle.groups.proofs.Once.{a_course_has_one_outcome}
 use Rattle.groups.proofs.Right.{a_course_is_right}
@@ -10,11 +10,11 @@ use Rattle.grouping.proofs.grouping.Grouping.plan.Goals as goal
 
 pub returns : goal.returns
 returns g c =
-    let q = c.args.question.now in
-    let S = g.S.Scale.measure c.args.scale.now in
-    let L = g.met.S.Scale.lawful c.args.scale.now in
-    let K = laws_of _ (g.met.R.Rule.lawful c.args.rule.now q.layout.now) q in
-    let i = inquiry (g.R.Rule.conflicts c.args.rule.now) S q in
+    let q = c.args.asked.now.question.now in
+    let S = g.S.Scale.measure c.args.asked.now.scale.now in
+    let L = g.met.S.Scale.lawful c.args.asked.now.scale.now in
+    let K = laws_of _ (g.met.R.Rule.lawful c.args.asked.now.rule.now q.layout.now) q in
+    let i = inquired g.R.Rule.conflicts g.S.Scale.measure c.args.asked.now in
     let T = taken (g.Q.Search.takes c.args.self.now.below) i (length c.args.cells.now) in
     record {
       asking_leaves_the_meaning = c.follow.ensures.asking_leaves_the_meaning;
