@@ -1,8 +1,8 @@
 -- What is printed is read again.
-use Rattle.std.proofs.Common.{◌≡◌, ℕ, ◌+◌, ◌*◌, ◌/◌, ◌%◌, ◌<◌, true, false, eqb, List, [], ◌∷◌, ◌++◌, length, None, sym, refl, ap, ◌∙◌, ap₂, div-add-mod', arith}
+use Rattle.std.proofs.Common.{◌≡◌, ℕ, ◌+◌, ◌*◌, ◌/◌, ◌%◌, ◌<◌, true, false, eqb, List, [], ◌∷◌, ◌++◌, length, None, sym, refl, ap, ◌∙◌, ap₂, arith}
 use Rattle.std.specs.List.{AllByRecursion}
 use Rattle.std.proofs.lemmas.List.{append-nil, append_assoc}
-use Rattle.std.proofs.lemmas.Bool.{cond-true, cond-false, eq-eqb, ne_eqb, le-ltb}
+use Rattle.std.proofs.lemmas.Bool.{cond-false}
 use Rattle.std.proofs.lemmas.Bool.Decides.{nat_tests}
 use Rattle.frames.specs.Lines.{digit, digit_value, pair_value, fault_from, bytes_of}
 use Rattle.frames.specs.Text.{digit_of, chars_of, line_of, text, RoundTrip}
@@ -15,8 +15,7 @@ digit_digit : (d : ℕ) → d < 16 → digit (digit_of d) ≡ true
 digit_digit d h = grind (arith, nat_tests)
 
 pair_again : (b : ℕ) → b < 256 → pair_value (digit_of (b / 16)) (digit_of (b % 16)) ≡ b
-pair_again b h =
-    ap₂ (λ (x y : ℕ). x * 16 + y) (digit_value_lem (b / 16) (omega arith)) (digit_value_lem (b % 16) (omega arith)) ∙ div-add-mod' b 16
+pair_again b h = grind (arith, digit_value_lem)
 
 bytes_again : (bs : List ℕ) → AllByRecursion (λ b. b < 256) bs → bytes_of (chars_of bs) ≡ bs
 unfolding bytes_of chars_of
@@ -32,35 +31,27 @@ length_chars_of (b ∷ (c ∷ bs)) h = omega (arith, length_chars_of (c ∷ bs) 
 
 at_digit : (i d : ℕ) (xs : List ℕ) → (i % 3 ≡ 2 → ⊥) → d < 16 → fault_from i (digit_of d ∷ xs) ≡ fault_from (i + 1) xs
 unfolding fault_from
-at_digit i d xs h k = cond-true _ _ _ (cond-false _ _ _ (ne_eqb (i % 3) 2 h) ∙ digit_digit d k)
+at_digit i d xs h k = let e = digit_digit d k in grind (arith, nat_tests)
 
 at_space : (i : ℕ) (xs : List ℕ) → i % 3 ≡ 2 → fault_from i (32 ∷ xs) ≡ fault_from (i + 1) xs
 unfolding fault_from
-at_space i xs h = cond-true _ _ _ (cond-true _ _ _ (eq-eqb (i % 3) 2 h))
+at_space i xs h = grind (arith, nat_tests)
 
 at_end : (i : ℕ) → i % 3 ≡ 2 → fault_from i [] ≡ None
 unfolding fault_from
-at_end i h = cond-true _ _ _ (eq-eqb (i % 3) 2 h)
+at_end i h = grind (arith, nat_tests)
 
 no_wrong : (bs : List ℕ) (i : ℕ) → 0 < length bs → i % 3 ≡ 0 → AllByRecursion (λ b. b < 256) bs → fault_from i (chars_of bs) ≡ None
 unfolding chars_of
 no_wrong [] i n m h = absurd (omega arith)
-no_wrong (b ∷ []) i n m h =
-    let k = h.0 in
-    at_digit i (b / 16) _ (λ (e : i % 3 ≡ 2). omega arith) (omega arith)
-    ∙ at_digit (i + 1) (b % 16) _ (λ (e : (i + 1) % 3 ≡ 2). omega arith) (omega arith)
-    ∙ at_end (i + 1 + 1) (omega arith)
-no_wrong (b ∷ (c ∷ bs)) i n m h =
-    let k = h.0 in
-    at_digit i (b / 16) _ (λ (e : i % 3 ≡ 2). omega arith) (omega arith)
-    ∙ at_digit (i + 1) (b % 16) _ (λ (e : (i + 1) % 3 ≡ 2). omega arith) (omega arith)
-    ∙ at_space (i + 1 + 1) _ (omega arith)
-    ∙ no_wrong (c ∷ bs) (i + 1 + 1 + 1) (omega arith) (omega arith) h.1
+no_wrong (b ∷ []) i n m h = grind (arith, at_digit, at_end)
+no_wrong (b ∷ (c ∷ bs)) i n m h = let ih = no_wrong (c ∷ bs) (i + 1 + 1 + 1) in grind (arith, at_digit, at_space, ih)
 
 pub round_trip : RoundTrip
 round_trip bytes n m h =
     let l = length_chars_of bytes n in
-    (cond-false _ _ _ (ne_eqb (length (chars_of bytes)) 0 (λ (e : length (chars_of bytes) ≡ 0). omega arith)) ∙ cond-false _ _ _ (le-ltb 64 (length (chars_of bytes)) (omega arith)) ∙ no_wrong bytes 0 n refl h, bytes_again bytes h)
+    let e = no_wrong bytes 0 n refl h in
+    (grind (arith, nat_tests), bytes_again bytes h)
 
 -- no digit is 0A
 no_end : (d : ℕ) → eqb (digit_of d) 10 ≡ false

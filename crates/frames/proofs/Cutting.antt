@@ -1,7 +1,8 @@
 -- The lines that bytes give, in any pieces; and a line of which the first 65 bytes are held.
 use Rattle.std.proofs.Common.{◌≡◌, ℕ, zero, suc, ◌+◌, ◌<◌, ◌≤◌, Bool, true, false, cond, eqb, List, [], ◌∷◌, ◌++◌, map, length, take, set, Some, Err, Option, sym, refl, ap, ◌∙◌, ap₂, ⊎_elim, arith}
 use Rattle.std.proofs.lemmas.List.{length-take, length-append, take_all, take-append-le, take_more_set}
-use Rattle.std.proofs.lemmas.Bool.{cases_lt, cond-true, cond-false, lt-ltb, eq-eqb, ne_eqb}
+use Rattle.std.proofs.lemmas.Bool.{cases_lt}
+use Rattle.std.proofs.lemmas.Bool.Decides.{nat_tests}
 use Rattle.track.specs.declared.refusal.Refusal.TheVariants.{NotPairsOfDigits}
 use Rattle.frames.specs.Lines.{fault_of, bytes_of}
 use Rattle.frames.specs.Frames.{unless, by_kind, read_as}
@@ -46,9 +47,7 @@ last_line s b e = ap (λ (z : List ℕ). cond (eqb (length z) 0) [] (z ∷ [])) 
   where
     go : (b : List ℕ) → cond (eqb (length (take 65 b)) 0) [] (take 65 b ∷ []) ≡ map (take 65) (cond (eqb (length b) 0) [] (b ∷ []))
     go [] = refl
-    go (y ∷ ys) =
-        cond-false _ _ _ (ne_eqb (length (take 65 (y ∷ ys))) 0 (λ (e : length (take 65 (y ∷ ys)) ≡ 0). omega arith))
-        ∙ ap (map (take 65)) (sym (cond-false _ _ _ (ne_eqb (length (y ∷ ys)) 0 (λ (e : length (y ∷ ys) ≡ 0). omega arith))))
+    go (y ∷ ys) = grind (arith, nat_tests)
 
 all_from : (xs : List ℕ) (s : Cut) (b : List ℕ) → begun_of s ≡ take 65 b → given s xs ++ rest (after_all s xs) ≡ map (take 65) (lines_from b xs)
 unfolding after_all given lines_from stepped
@@ -66,7 +65,7 @@ all_lines xs = all_from xs fresh [] refl
 -- a line of over 64 bytes has its fault at 64
 
 too_long : (xs : List ℕ) → 64 < length xs → fault_of xs ≡ Some 64
-too_long xs h = cond-false _ _ _ (ne_eqb (length xs) 0 (λ (e : length xs ≡ 0). omega arith)) ∙ cond-true _ _ _ (lt-ltb 64 (length xs) h)
+too_long xs h = grind (arith, nat_tests)
 
 over : (xs : List ℕ) → 64 < length xs → read_as xs ≡ Err (NotPairsOfDigits 64)
 over xs h = ap (λ (o : Option ℕ). unless o (by_kind xs (bytes_of xs))) (too_long xs h)
@@ -94,14 +93,10 @@ stored held n x h k =
     let m : length (take n held ++ (x ∷ [])) ≤ 65 = omega (arith, length-append (take n held) (x ∷ []), length-take n held) in
     take_more_set held n x (omega arith) ∙ sym (take_all 65 (take n held ++ (x ∷ [])) m)
 
-pub begun_front : (held : List ℕ) (count n : ℕ) (t : Bool) → n ≡ cond t 0 count → take n held ≡ begun_of (cut (take count held) t)
-begun_front held count n true e = ap (λ (k : ℕ). take k held) e
-begun_front held count n false e = ap (λ (k : ℕ). take k held) e
-
 pub ends : (s : Cut) (x : ℕ) (line : List ℕ) → x ≡ 10 → line ≡ begun_of s → cut line true ≡ after s x
 unfolding stepped
-ends s x line h e = ap (λ (l : List ℕ). cut l true) e ∙ sym (ap (λ (t : Bool). stepped t s x) (eq-eqb x 10 h))
+ends s x line h e = grind (arith, nat_tests)
 
 pub goes_on : (s : Cut) (x : ℕ) (line : List ℕ) → (x ≡ 10 → ⊥) → line ≡ begun_of s → cut (take 65 (line ++ (x ∷ []))) false ≡ after s x
 unfolding stepped
-goes_on s x line h e = ap (λ (l : List ℕ). cut (take 65 (l ++ (x ∷ []))) false) e ∙ sym (ap (λ (t : Bool). stepped t s x) (ne_eqb x 10 h))
+goes_on s x line h e = grind (arith, nat_tests)

@@ -1,6 +1,7 @@
 -- The first wrong place of a line, by how many bytes from its start may stand where they do.
-use Rattle.std.proofs.Common.{◌≡◌, ℕ, ◌+◌, ◌<◌, Bool, true, false, cond, List, [], ◌∷◌, length, Some, ap, ◌∙◌, arith}
+use Rattle.std.proofs.Common.{◌≡◌, ℕ, ◌+◌, ◌<◌, List, [], ◌∷◌, length, Some, ap, arith}
 use Rattle.std.specs.List.{prefix_len, enumerate_from}
+use Rattle.std.proofs.lemmas.Bool.Decides.{nat_tests}
 use Rattle.frames.specs.Lines.{right, fault_from}
 
 abbrev from_start : ℕ → List ℕ → ℕ
@@ -9,17 +10,9 @@ from_start i xs = prefix_len (λ p. right p.0 p.1) (enumerate_from i xs)
 pub right_to_the_end : (i : ℕ) (xs : List ℕ) → prefix_len (λ p. right p.0 p.1) (enumerate_from i xs) ≡ length xs → fault_from i xs ≡ fault_from (i + length xs) []
 unfolding fault_from
 right_to_the_end i [] h = ap (λ (k : ℕ). fault_from k []) (omega arith)
-right_to_the_end i (x ∷ xs) h = go (right_to_the_end (i + 1) xs) (right i x) h
-  where
-    go : (from_start (i + 1) xs ≡ length xs → fault_from (i + 1) xs ≡ fault_from (i + 1 + length xs) []) → (b : Bool) → cond b (1 + from_start (i + 1) xs) 0 ≡ length (x ∷ xs) → cond b (fault_from (i + 1) xs) (Some i) ≡ fault_from (i + length (x ∷ xs)) []
-    go ih true h = ih (omega arith) ∙ ap (λ (k : ℕ). fault_from k []) (omega arith)
-    go ih false h = absurd (omega arith)
+right_to_the_end i (x ∷ xs) h = let ih = right_to_the_end (i + 1) xs in grind (arith, nat_tests)
 
 pub wrong_there : (i : ℕ) (xs : List ℕ) → prefix_len (λ p. right p.0 p.1) (enumerate_from i xs) < length xs → fault_from i xs ≡ Some (i + prefix_len (λ p. right p.0 p.1) (enumerate_from i xs))
 unfolding fault_from
 wrong_there i [] h = absurd (omega arith)
-wrong_there i (x ∷ xs) h = go (wrong_there (i + 1) xs) (right i x) h
-  where
-    go : (from_start (i + 1) xs < length xs → fault_from (i + 1) xs ≡ Some (i + 1 + from_start (i + 1) xs)) → (b : Bool) → cond b (1 + from_start (i + 1) xs) 0 < length (x ∷ xs) → cond b (fault_from (i + 1) xs) (Some i) ≡ Some (i + cond b (1 + from_start (i + 1) xs) 0)
-    go ih true h = ih (omega arith) ∙ ap Some (omega arith)
-    go ih false h = ap Some (omega arith)
+wrong_there i (x ∷ xs) h = let ih = wrong_there (i + 1) xs in grind (arith, nat_tests)

@@ -4,7 +4,7 @@ ghost use Rattle.frames.specs.Lines.{bytes_of};
 use crate::digits::pair_value;
 use crate::part::Part;
 
-// The byte with the index `i` of those that a line writes, 0 where there is none.
+// The byte with the index `i` of those that a line writes, 0 where there is none: no call of a part fails.
 #[tactic(auto, using(crate::proofs::Pairs::byte_here, crate::proofs::Pairs::none_there))]
 pub(crate) fn byte_at(line: &[u8], i: usize) -> u8
     requires { i ≤ 256 }

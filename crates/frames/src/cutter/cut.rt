@@ -20,6 +20,7 @@ impl Cutter {
     // How many bytes of the line that the next byte belongs to are held.
     fn begun(&self) -> usize
         ensures none_behind_an_ended_line { result ≡ (if self.now.ended then 0 else self.now.count) }
+        ensures the_bytes_begun { take result self.now.held ≡ begun_of (cut_of self.now) }
         ensures at_most_65 { result ≤ 65 }
     {
         if self.ended { 0 } else { self.count }
