@@ -1,5 +1,5 @@
 -- Marks that widen: by the open neighbours of one section, and by those of every marked section.
-use Rattle.std.proofs.Common.{◌≡◌, ℕ, ◌+◌, ◌<◌, Bool, true, false, ◌⊎◌, List, length, get_or, set, is_some, Some, None, Option, sym, refl, ap, ◌∙◌, subst, inl, inr, ⊎_elim, arith}
+use Rattle.std.proofs.Common.{◌≡◌, ℕ, ◌+◌, ◌<◌, ◌≤◌, Bool, true, false, ◌⊎◌, List, length, get_or, set, is_some, Some, None, Option, sym, refl, ap, ◌∙◌, subst, inl, inr, ⊎_elim, arith}
 use Rattle.std.proofs.lemmas.List.{length-set, get_or-set_same, get_or-set_other}
 use Rattle.std.proofs.lemmas.Bool.{cases_eq, cases_lt, both_ways}
 use Rattle.track.specs.Layouts.{sections_of, look, Neighbours}
@@ -134,9 +134,9 @@ pub below_none : (l : Layout) (o : Roster) (m : List Bool) → length m ≡ 32 �
 below_none l o m n = widened_none m (FromBelow l o m 0) n (λ b h. omega (arith, h.below))
 
 -- all sections are passed
-pub below_all : (l : Layout) (o : Roster) (m n : List Bool) → Widened m (FromBelow l o m (sections_of l)) n → Widened m (OnwardFrom l o m) n
-below_all l o m n w =
-    widened_as m n (FromBelow l o m (sections_of l)) (OnwardFrom l o m)
+pub below_all : (l : Layout) (o : Roster) (m n : List Bool) (i : ℕ) → sections_of l ≤ i → Widened m (FromBelow l o m i) n → Widened m (OnwardFrom l o m) n
+below_all l o m n i most w =
+    widened_as m n (FromBelow l o m i) (OnwardFrom l o m)
     (λ b h. record { section = h.section; marked = h.marked; onward = h.onward })
-    (λ b h. record { section = h.section; below = (linked_inside l h.section b h.onward.linked).0; marked = h.marked; onward = h.onward })
+    (λ b h. record { section = h.section; below = omega (arith, (linked_inside l h.section b h.onward.linked).0); marked = h.marked; onward = h.onward })
     w

@@ -1,13 +1,22 @@
 -- Stuck trains, and the answers that follow from one, or from none.
-use Rattle.std.proofs.Common.{◌≡◌, ℕ, Bool, true, false, not, ◌⊎◌, is_some, Some, None, Option, refl, inl, inr, ⊎_elim, arith}
+use Rattle.std.proofs.Common.{◌≡◌, ℕ, ◌<◌, Bool, true, false, not, ◌⊎◌, length, get_or, is_some, Some, None, Option, refl, subst, inl, inr, ⊎_elim, arith}
+use Rattle.std.specs.Bool.{MatchBool}
+use Rattle.std.specs.List.{HoldsAt, AllWithin, range_with_len}
+use Rattle.std.proofs.lemmas.Bool.{false≢true}
+use Rattle.std.proofs.lemmas.List.FromFn.{length-range_with_len, get_or-range_with_len}
+use Rattle.rules.specs.Conflicts.{Conflicts}
+use Rattle.roster.specs.Model.{rows_of}
+use Rattle.sheets.specs.Posing.{marked}
+use Rattle.sheets.specs.declared.question.Question.{Question}
 use Rattle.sheets.specs.Problem.{Problem, Group, Member}
 use Rattle.sheets.specs.Plan.{Plan, Lawful, Without}
-use Rattle.sheets.specs.Inquiry.{Inquiry}
+use Rattle.sheets.specs.Inquiry.{Inquiry, problem_of}
 use Rattle.sheets.specs.Theorems.{Same}
 use Rattle.sheets.specs.declared.sheet.Sheet.{Sheet}
 use Rattle.search.specs.Answers.{Answered}
-use Rattle.search.specs.declared.answer.Answer.{Answer}
-use Rattle.search.specs.declared.answer.Answer.TheVariants.{BeyondReach, NoSheet, Found}
+use Rattle.std.specs.Prelude.{Ok, Err, Result}
+use Rattle.search.specs.declared.answer.Unplanned.{Unplanned}
+use Rattle.search.specs.declared.answer.Unplanned.TheVariants.{BeyondReach, NoSheet}
 use Rattle.single_check.specs.Ways.{Reaches, Fewest, StuckTrain, StuckIn, Stuck}
 use Rattle.single_check.proofs.Ways.{reaches_by}
 
@@ -32,15 +41,33 @@ stuck_exactly Q G r None false m h e = absurd (let z : ◌≡◌ {A = ℕ} 0 1 =
 stuck_exactly Q G r (Some k) true m h e = absurd (let z : ◌≡◌ {A = ℕ} 0 1 = cc in omega arith)
 
 -- where a train is stuck, no sheet is the right answer
-pub answered_stuck : {C : Type 0} (i : Inquiry C) (Taken : Type 0) (s : Sheet) → Stuck i → Answered i (Stuck i ⊎ Taken) s s NoSheet
+pub answered_stuck : {C : Type 0} (i : Inquiry C) (Taken : Type 0) (s : Sheet) → Stuck i → Answered i (Stuck i ⊎ Taken) s s (Err NoSheet)
 answered_stuck i Taken s h = (inl h, refl, stuck_without i.problem i.group h)
 
 -- where no train is stuck, the answer from below is right of what is taken here
-pub answered_below : {C : Type 0} (i : Inquiry C) (Taken : Type 0) (old new : Sheet) (a : Answer C) → (Stuck i → ⊥) → Answered i Taken old new a → Answered i (Stuck i ⊎ Taken) old new a
-answered_below i Taken old new BeyondReach n h = (⊎_elim n h.0, h.1)
-answered_below i Taken old new NoSheet n h = (inr h.0, h.1, h.2)
-answered_below i Taken old new (Found c) n h = (inr h.0, h.1)
+pub answered_below : {C : Type 0} (i : Inquiry C) (Taken : Type 0) (old new : Sheet) (a : Result C Unplanned) → (Stuck i → ⊥) → Answered i Taken old new a → Answered i (Stuck i ⊎ Taken) old new a
+answered_below i Taken old new (Err BeyondReach) n h = (⊎_elim n h.0, h.1)
+answered_below i Taken old new (Err NoSheet) n h = (inr h.0, h.1, h.2)
+answered_below i Taken old new (Ok c) n h = (inr h.0, h.1)
 
 -- taken here for the same groups, if taken below for the same
 pub taken_same : {C : Type 0} (i : Inquiry C) (T U : Type 0) → Same T U → Same (Stuck i ⊎ T) (Stuck i ⊎ U)
 taken_same i T U s = record { to = ⊎_elim inl (λ t. inr (s.to t)); back = ⊎_elim inl (λ u. inr (s.back u)) }
+
+-- what is told of a row: whether its train is stuck
+abbrev pub Told : Question → Bool → (r : ℕ) → Type 0
+Told q b r = (k : Conflicts) → Same (b ≡ true) (StuckTrain (problem_of k q.layout.now q.roster.now q.steps) (marked q.group) r)
+
+-- some of the rows is told to be stuck, or all are told not to be
+pub stuck_among : (q : Question) (n : ℕ) → n ≡ rows_of q.roster.now → (b : Bool)
+    → MatchBool b ((i : ℕ) × (i < length (range_with_len 0 n)) × HoldsAt (Told q true) (range_with_len 0 n) i) (AllWithin (Told q false) (range_with_len 0 n) 0 (length (range_with_len 0 n)))
+    → (k : Conflicts) → Same (b ≡ true) (StuckIn (problem_of k q.layout.now q.roster.now q.steps) (marked q.group))
+stuck_among q n e true h k = record { to = λ z. (_, (h.2 0 k).to refl); back = λ s. refl }
+stuck_among q n e false h k = record {
+  to = λ z. absurd (false≢true z);
+  back = λ s.
+      let l : s.0 < n = omega (arith, s.1.member.a_row) in
+      let here : get_or (range_with_len 0 n) s.0 0 ≡ s.0 = omega (arith, get_or-range_with_len 0 n s.0 0 l) in
+      let told : Told q false s.0 = subst (Told q false) here (h s.0 0 (omega arith) (omega (arith, length-range_with_len 0 n))) in
+      (told k).back s.1;
+}

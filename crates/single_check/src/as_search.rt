@@ -11,8 +11,9 @@ use crate::check::Check;
 use crate::reach::fewest_steps;
 use rules::rule::Rule;
 use scales::scale::Scale;
-use search::answer::Answer;
+use search::answer::{Answer, Unplanned};
 use search::search::Search;
+use sheets::asked::Asked;
 use sheets::question::Question;
 use sheets::sheet::Sheet;
 
@@ -29,12 +30,7 @@ fn is_stuck(question: &Question, row: usize) -> bool
 fn some_train_is_stuck(question: &Question) -> bool
     ensures true_exactly_if_some_train_is_stuck { (k : Conflicts) → Same (result ≡ true) (StuckIn (problem_of k question.now.layout.now question.now.roster.now question.now.steps) (marked question.now.group)) }
 {
-    for row in 0..question.roster.count() {
-        if is_stuck(question, row) {
-            return true;
-        }
-    }
-    false
+    (0..question.roster.count()).any(|row| is_stuck(question, row))
 }
 
 impl<S: Scale, Q: Search<S>> Search<S> for Check<Q> {
@@ -45,15 +41,13 @@ impl<S: Scale, Q: Search<S>> Search<S> for Check<Q> {
 
     fn search<R: Rule>(
         &mut self,
-        rule: &R,
-        scale: &S,
-        question: &Question,
+        asked: &Asked<R, S>,
         cells: &mut [Option<S::Cost>],
         sheet: &mut Sheet,
     ) -> Answer<S::Cost> {
-        if some_train_is_stuck(question) {
-            return Answer::NoSheet;
+        if some_train_is_stuck(asked.question) {
+            return Err(Unplanned::NoSheet);
         }
-        self.below.search(rule, scale, question, cells, sheet)
+        self.below.search(asked, cells, sheet)
     }
 }

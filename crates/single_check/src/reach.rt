@@ -14,10 +14,9 @@ use track::layout::Layout;
 fn mark_neighbours(layout: &Layout, roster: &Roster, a: u8, marks: &mut [bool; 32])
     ensures the_open_neighbours_are_marked_too { Widened marks.old (Onward layout.now roster.now a) marks.new }
 {
-    let neighbours = layout.neighbours(a);
-    for b in neighbours {
+    for b in layout.neighbours(a) {
         if !roster.is_closed(*b) {
-            marks[*b as usize] = true;
+            marks[usize::from(*b)] = true;
         }
     }
 }
@@ -27,9 +26,9 @@ fn spread(layout: &Layout, roster: &Roster, reached: &mut [bool; 32])
     ensures one_step_outward { Widened reached.old (OnwardFrom layout.now roster.now reached.old) reached.new }
 {
     let before = *reached;
-    for a in 0..layout.sections() {
-        if before[a as usize] {
-            mark_neighbours(layout, roster, a, reached);
+    for (a, marked) in before.iter().enumerate() {
+        if *marked {
+            mark_neighbours(layout, roster, a as u8, reached);
         }
     }
 }
@@ -42,10 +41,10 @@ fn fewest_between(question: &Question, start: u8, goal: u8) -> Option<usize>
     ensures the_fewest_steps_from_one_to_the_other { (k : Conflicts) → FewestBetween (problem_of k question.now.layout.now question.now.roster.now question.now.steps) start goal result }
 {
     let mut reached = [false; 32];
-    reached[start as usize] = true;
+    reached[usize::from(start)] = true;
     let times = question.steps + 1;
     for steps in 0..times {
-        if reached[goal as usize] {
+        if reached[usize::from(goal)] {
             return Some(steps);
         }
         spread(question.layout, question.roster, &mut reached);
@@ -58,8 +57,6 @@ pub fn fewest_steps(question: &Question, row: usize) -> Option<usize>
     ensures the_fewest_steps_in_which_the_train_reaches_its_goal { (k : Conflicts) → row < rows_of question.now.roster.now → Fewest (problem_of k question.now.layout.now question.now.roster.now question.now.steps) row result }
     ensures none_for_a_row_that_is_not_on_the_roster { rows_of question.now.roster.now ≤ row → result ≡ None }
 {
-    match question.roster.train(row) {
-        None => None,
-        Some(train) => fewest_between(question, train.start, train.goal),
-    }
+    let train = question.roster.train(row)?;
+    fewest_between(question, train.start, train.goal)
 }

@@ -1,20 +1,14 @@
-use Rattle.std.proofs.Common.{true, refl, ap, ◌∙◌, subst, arith}
+use Rattle.std.proofs.Common.{true, ap, ◌∙◌, subst, arith}
 use Rattle.roster.specs.Model.{closed_of}
 use Rattle.sheets.specs.Inquiry.{problem_of}
 use Rattle.sheets.proofs.Posed.{posed_of}
 use Rattle.single_check.specs.Ways.{FewestBetween}
 use Rattle.single_check.proofs.reach.fewest_steps.Goals as goal
 
-pub returns-in-None : goal.returns-in-None
-returns-in-None c = record {
-  the_fewest_steps_in_which_the_train_reaches_its_goal = λ k h. absurd (omega (arith, h, c.in-None.ensures.a_row_has_its_start_and_goal));
-  none_for_a_row_that_is_not_on_the_roster = λ h. refl;
-}
-
 pub fewest_between-requires : goal.fewest_between-requires
 fewest_between-requires c =
     let q = c.args.question.now in
-    let on = c.in-Some.ensures.a_row_has_its_start_and_goal in
+    let on = c.in_ok-train.ensures.a_row_has_its_start_and_goal in
     let posed = posed_of (λ _ _ _ _. true) q in
     let start_inside = posed.start_inside c.args.row on.inside in
     let goal_inside = posed.goal_inside c.args.row on.inside in
@@ -22,14 +16,14 @@ fewest_between-requires c =
     let goal_open = ap (closed_of q.roster.now) on.goal ∙ posed.goal_open c.args.row on.inside in
     record { start_inside = omega (arith, start_inside, goal_inside, on.start, on.goal); start_open = cc; goal_inside = omega (arith, start_inside, goal_inside, on.start, on.goal) }
 
-pub returns-in-Some : goal.returns-in-Some
-returns-in-Some c =
+pub returns : goal.returns
+returns c =
     let q = c.args.question.now in
-    let on = c.in-Some.ensures.a_row_has_its_start_and_goal in
+    let on = c.in_ok-train.ensures.a_row_has_its_start_and_goal in
     let found = c.fewest_between.result in
     record {
       the_fewest_steps_in_which_the_train_reaches_its_goal = λ k h.
           let Q = problem_of k q.layout.now q.roster.now q.steps in
-          subst (λ b. FewestBetween Q (Q.start c.args.row) b found) on.goal (subst (λ a. FewestBetween Q a c.in-Some.train.goal found) on.start (c.fewest_between.ensures.the_fewest_steps_from_one_to_the_other k));
+          subst (λ b. FewestBetween Q (Q.start c.args.row) b found) on.goal (subst (λ a. FewestBetween Q a c.in_ok-train.train.goal found) on.start (c.fewest_between.ensures.the_fewest_steps_from_one_to_the_other k));
       none_for_a_row_that_is_not_on_the_roster = λ h. absurd (omega (arith, h, on.inside));
     }

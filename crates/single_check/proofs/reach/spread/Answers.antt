@@ -1,9 +1,9 @@
-use Rattle.std.proofs.Common.{◌≡◌, ◌+◌, sym, subst, arith}
-use Rattle.track.specs.Layouts.{sections_of}
+use Rattle.std.proofs.Common.{◌+◌, sym, subst, arith}
+use Rattle.track.proofs.Laws.{sections_most}
 use Rattle.single_check.specs.Marks.{Widened}
 use Rattle.single_check.proofs.Marking.{FromBelow, below_none, below_skip, below_take, below_all}
 use Rattle.single_check.proofs.reach.spread.Goals as goal
-use Rattle.single_check.proofs.reach.spread.Goals.{then-before-a, else-before-a}
+use Rattle.single_check.proofs.reach.spread.Goals.{then-marked, else-marked}
 
 pub loop-a-init : goal.loop-a-init
 loop-a-init c = below_none c.args.layout.now c.args.roster.now c.args.reached.now c.told-reached
@@ -14,9 +14,9 @@ loop-a-preserved c =
     let o = c.args.roster.now in
     let m = c.args.reached.now in
     let a = c.loop-a.a in
-    elim c.if-before-a.branch [
-      | then-before-a w ↦ subst (Widened m (FromBelow l o m (a + 1))) (sym w.reached-is) (below_take l o m a c.loop-a.reached w.mark_neighbours.new.marks w.if-before-a.true c.loop-a.invariant w.mark_neighbours.ensures.the_open_neighbours_are_marked_too)
-      | else-before-a w ↦ subst (Widened m (FromBelow l o m (a + 1))) (sym w.reached-is) (below_skip l o m a c.loop-a.reached w.if-before-a.false c.loop-a.invariant)
+    elim c.if-marked.branch [
+      | then-marked w ↦ subst (Widened m (FromBelow l o m (a + 1))) (sym w.reached-is) (below_take l o m a c.loop-a.reached w.mark_neighbours.new.marks w.if-marked.true c.loop-a.invariant w.mark_neighbours.ensures.the_open_neighbours_are_marked_too)
+      | else-marked w ↦ subst (Widened m (FromBelow l o m (a + 1))) (sym w.reached-is) (below_skip l o m a c.loop-a.reached w.if-marked.false c.loop-a.invariant)
     ]
 
 pub returns : goal.returns
@@ -24,5 +24,4 @@ returns c =
     let l = c.args.layout.now in
     let o = c.args.roster.now in
     let m = c.args.reached.now in
-    let e : c.loop-a.a ≡ sections_of l = omega (arith, c.loop-a-test.false, c.loop-a.auto, c.sections-a-end.ensures.how_many_sections_there_are) in
-    record { one_step_outward = below_all l o m c.loop-a.reached (subst (λ n. Widened m (FromBelow l o m n) c.loop-a.reached) e c.loop-a.invariant) }
+    record { one_step_outward = below_all l o m c.loop-a.reached c.loop-a.a (omega (arith, sections_most l)) c.loop-a.invariant }
