@@ -1,6 +1,7 @@
 -- Following the best word, one train after the other and one step after the other.
 use Rattle.std.proofs.Common.{◌≡◌, ℕ, suc, ◌+◌, ◌-◌, ◌*◌, ◌<◌, ◌≤◌, true, false, ◌≢◌, List, [], ◌∷◌, ◌++◌, length, get_or, take, set, is_some, Some, None, Option, sym, refl, ap, ◌∙◌, subst, ap₂, ⊎_elim, mul-zero, mul-add, add-one, arith, length-set, length-take-le, get_or-set_other, get_or-set_same, take-suc-set}
 use lib.Seq.{append_snoc}
+use Rattle.std.specs.Option.{option_map}
 use Rattle.std.proofs.lemmas.List.{append-nil, append_assoc}
 use Rattle.std.proofs.lemmas.Bool.{cases_lt, both_ways}
 use Rattle.scales.specs.Measure.{Measure, MeasureLaws}
@@ -10,11 +11,11 @@ use Rattle.words.specs.Tasks.{begin}
 use Rattle.words.specs.Rests.{On}
 use Rattle.words.proofs.Least.{firstly}
 use Rattle.words.proofs.BestWords.{choice_some}
-use Rattle.table.specs.Steps.{todo, move_cost, cost_in, Picked, Can, Stepped}
+use Rattle.table.specs.Steps.{todo, move_cost, Picked, Can, Stepped}
 use Rattle.table.specs.declared.pick.Pick.{Pick}
 use Rattle.words.proofs.Turns.{turned_part, turned_full}
 
-pub some_cost : {C : Type 0} (r : Option (Pick C)) (o : Option C) → cost_in r ≡ o → is_some o ≡ true → is_some r ≡ true
+pub some_cost : {C : Type 0} (r : Option (Pick C)) (o : Option C) → option_map (λ p. p.cost) r ≡ o → is_some o ≡ true → is_some r ≡ true
 some_cost None o e h = ap is_some e ∙ h
 some_cost (Some p) o e h = refl
 
@@ -88,7 +89,7 @@ module _ {C : Type 0} (S : Measure C) (L : MeasureLaws S) (K : Task) (left : ℕ
 
     pub step_more : (p : Pick C) → Picked S K left j at to (Some p) → Stepping S K left at (j + 1) (set to j p.section)
     step_more p P =
-        let e : p.section ≡ x = P.goes jk in
+        let e : p.section ≡ x = P.goes in
         let q : take (j + 1) (set to j p.section) ≡ take j to ++ (x ∷ []) =
         ap (λ n. take n (set to j p.section)) (add-one j) ∙ take-suc-set to j p.section (omega (arith, W.long)) ∙ ap (λ y. take j to ++ (y ∷ [])) e in
         record {

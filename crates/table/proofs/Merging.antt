@@ -1,119 +1,112 @@
 -- The neighbours of a section and itself, put together in rising order.
-use Rattle.std.proofs.Common.{◌≡◌, ℕ, ◌+◌, ◌<◌, ◌≤◌, true, false, eqb, ◌⊎◌, List, length, get_or, is_some, Some, None, Option, refl, ap, subst, inl, inr, ⊎_elim, arith}
-use Rattle.std.proofs.lemmas.Bool.{cases_Bool, cases_lt, or_cases, eqb-true}
+use Rattle.std.proofs.Common.{◌≡◌, ℕ, zero, suc, ◌+◌, ◌-◌, ◌<◌, ◌≤◌, true, false, eqb, List, [], ◌∷◌, length, get_or, take, is_some, Some, None, Option, sym, refl, ap, ◌∙◌, subst, ⊎_elim, arith}
+use Rattle.std.proofs.lemmas.Bool.{cases_lt, or_cases, eqb-true, and_parts, cond-false, both_ways}
+use Rattle.std.proofs.lemmas.Bool.Decides.{nat_tests}
+use Rattle.std.proofs.lemmas.List.Edits.{length-insert, get_or-insert_below, get_or-insert_at, get_or-insert_above}
+use Rattle.std.specs.List.{insert}
+use Rattle.track.specs.Links.{joins, points_of, link_good, links_good}
 use Rattle.track.specs.Layouts.{sections_of, look, Neighbours}
 use Rattle.track.specs.declared.layout.Layout.{Layout}
-use Rattle.track.proofs.Laws.{look_inside}
-use Rattle.table.specs.Candidates.{Candidates, one_more, reached}
-use Rattle.table.specs.declared.tries.Tries.{Tries}
-use Rattle.table.proofs.Tryings.{try_none, try_more, try_to}
+use Rattle.track.specs.declared.link.Link.{Link}
+use Rattle.track.proofs.Laws.{look_inside, sections_most}
+use Rattle.table.specs.Candidates.{Candidates, reached}
 
-module _ (l : Layout) (a : ℕ) (xs : List ℕ) where
-  -- of the first i neighbours those below a are taken
-  pub record Below (i : ℕ) (t : Tries) : Type 0 where
-    pub bound : ℕ
-    pub taken : Candidates bound (reached l a) t
-    pub most : bound ≤ a
-    pub done : (p : ℕ) → p < i → get_or xs p 0 < a → get_or xs p 0 < bound
-    pub ahead : (p : ℕ) → i ≤ p → p < length xs → bound ≤ get_or xs p 0
+-- no link leads from a section to itself
+joins_self : (n : ℕ) (l : Link) (a : ℕ) → link_good n l ≡ true → joins l a a ≡ false
+joins_self n l a g = grind (arith, nat_tests)
 
-  -- a is taken, and of the first i neighbours those above it
-  pub record Above (i : ℕ) (t : Tries) : Type 0 where
-    pub bound : ℕ
-    pub taken : Candidates bound (reached l a) t
-    pub past : a < bound
-    pub inside : bound ≤ sections_of l
-    pub done : (p : ℕ) → p < i → a < get_or xs p 0 → get_or xs p 0 < bound
-    pub ahead : (p : ℕ) → i ≤ p → p < length xs → a < get_or xs p 0 → bound ≤ get_or xs p 0
+points_self : (n : ℕ) (ls : List Link) (a : ℕ) → links_good n ls ≡ true → is_some (points_of ls a a) ≡ false
+points_self n [] a g = cc
+points_self n (l ∷ ls) a g =
+    let p = and_parts (link_good n l) (links_good n ls) g in
+    ap is_some (cond-false (joins l a a) (Some l.points) (points_of ls a a) (joins_self n l a p.0)) ∙ points_self n ls a p.1
+
+look_self : (l : Layout) (a : ℕ) → is_some (look l a a) ≡ false
+unfolding look
+look_self l a = points_self l.sections (take l.link_count l.links) a l.sound
+
+-- numbers that rise are no fewer than their places
+rises : (xs : List ℕ) → ((i j : ℕ) → i < j → j < length xs → get_or xs i 0 < get_or xs j 0) → (i : ℕ) → i < length xs → i ≤ get_or xs i 0
+rises xs up zero h = omega arith
+rises xs up (suc i) h = let a = rises xs up i (omega arith) in let b = up i (suc i) (omega arith) h in omega arith
 
 module _ (l : Layout) (a : ℕ) (xs : List ℕ) (N : Neighbours l a xs) where
-  -- a section in reach is a itself or a neighbour
-  out : (z : ℕ) → (a ≡ z → ⊥) → ((p : ℕ) → p < length xs → get_or xs p 0 ≡ z → ⊥) → reached l a z ≡ false
-  out z d h = ⊎_elim (λ e. absurd (no (or_cases (eqb a z) (is_some (look l a z)) e))) (λ e. e) (cases_Bool (reached l a z))
-    where
-      no : (eqb a z ≡ true) ⊎ (is_some (look l a z) ≡ true) → ⊥
-      no (inl e) = d (eqb-true a z e)
-      no (inr e) = let w = N.every z e in h w.0 w.1 w.2
-
-  -- later neighbours are higher
-  later : (i p : ℕ) → i ≤ p → p < length xs → get_or xs i 0 ≤ get_or xs p 0
-  later i p h k = ⊎_elim (λ m. omega (arith, N.rising i p m k)) (λ m. let e : i ≡ p = omega arith in subst (λ q. get_or xs i 0 ≤ get_or xs q 0) e (omega arith)) (cases_lt i p)
-
   on : (i : ℕ) → i < length xs → get_or xs i 0 < sections_of l
-  on i h = go (look l a (get_or xs i 0)) refl (N.linked i h)
+  on i h = go (look l a (get_or xs i 0)) (λ p e. (look_inside l a (get_or xs i 0) p e).1) (N.linked i h)
     where
-      go : (o : Option ℕ) → look l a (get_or xs i 0) ≡ o → is_some (look l a (get_or xs i 0)) ≡ true → get_or xs i 0 < sections_of l
-      go None e h = absurd (let z : ◌≡◌ {A = ℕ} 0 1 = cc in omega arith)
-      go (Some p) e h = (look_inside l a (get_or xs i 0) p e).1
+      go : (o : Option ℕ) → ((p : ℕ) → o ≡ Some p → get_or xs i 0 < sections_of l) → is_some o ≡ true → get_or xs i 0 < sections_of l
+      go None f e = absurd (both_ways false refl e)
+      go (Some p) f e = f p refl
 
-  pub below_none : (t : Tries) → t.count ≡ 0 → length t.section ≡ 33 → Below l a xs 0 t
-  below_none t z h = record {
-    bound = 0;
-    taken = try_none (reached l a) t z h;
-    most = omega arith;
-    done = λ p k. absurd (omega arith);
-    ahead = λ p k m. omega arith;
-  }
+  -- there are fewer of them than sections
+  pub few : length xs ≤ 32
+  few = ⊎_elim
+      (λ h. let u = rises xs N.rising (length xs - 1) (omega arith) in let v = on (length xs - 1) (omega arith) in omega (arith, sections_most l))
+      (λ h. omega arith)
+      (cases_lt 32 (length xs))
 
-  pub below_skip : (i : ℕ) (t : Tries) → Below l a xs i t → a ≤ get_or xs i 0 → Below l a xs (i + 1) t
-  below_skip i t B h = record {
-    bound = B.bound;
-    taken = B.taken;
-    most = B.most;
-    done = λ p k m. ⊎_elim (λ u. B.done p u m) (λ u. absurd (let e : p ≡ i = omega arith in omega (arith, ap (λ q. get_or xs q 0) e))) (cases_lt p i);
-    ahead = λ p k m. B.ahead p (omega arith) m;
-  }
+  pub not_falling : (i j : ℕ) → i ≤ j → j < length xs → get_or xs i 0 ≤ get_or xs j 0
+  not_falling i j h k = ⊎_elim (λ u. omega (arith, N.rising i j u k)) (λ u. let e : i ≡ j = omega arith in omega (arith, ap (λ z. get_or xs z 0) e)) (cases_lt i j)
 
-  pub below_take : (i : ℕ) (t : Tries) → Below l a xs i t → i < length xs → get_or xs i 0 < a → t.count < 33 → Below l a xs (i + 1) (one_more t (get_or xs i 0))
-  below_take i t B h m room = record {
-    bound = get_or xs i 0 + 1;
-    taken = try_more (get_or xs i 0) (reached l a) t (try_to B.bound (get_or xs i 0) (reached l a) t (B.ahead i (omega arith) h) B.taken gap) room;
-    most = omega arith;
-    done = λ p k u. ⊎_elim (λ v. omega (arith, N.rising p i v h)) (λ v. let e : p ≡ i = omega arith in omega (arith, ap (λ q. get_or xs q 0) e)) (cases_lt p i);
-    ahead = λ p k u. omega (arith, N.rising i p (omega arith) u);
-  }
-    where
-      gap : (z : ℕ) → B.bound ≤ z → z < get_or xs i 0 → reached l a z ≡ false
-      gap z k u = out z (λ e. omega arith) (λ p v e. ⊎_elim (λ w. omega (arith, B.done p w (omega arith))) (λ w. omega (arith, later i p w v)) (cases_lt p i))
+  -- the section itself is none of them
+  apart : (i : ℕ) → i < length xs → a ≡ get_or xs i 0 → ⊥
+  apart i h e = both_ways (is_some (look l a a)) (look_self l a) (subst (λ z. is_some (look l a z) ≡ true) (sym e) (N.linked i h))
 
-  pub self_take : (t : Tries) → Below l a xs (length xs) t → a < sections_of l → t.count < 33 → Above l a xs 0 (one_more t a)
-  self_take t B h room = record {
-    bound = a + 1;
-    taken = try_more a (reached l a) t (try_to B.bound a (reached l a) t B.most B.taken gap) room;
-    past = omega arith;
-    inside = omega arith;
-    done = λ p k. absurd (omega arith);
-    ahead = λ p k m u. omega arith;
-  }
-    where
-      gap : (z : ℕ) → B.bound ≤ z → z < a → reached l a z ≡ false
-      gap z k u = out z (λ e. omega arith) (λ p v e. omega (arith, B.done p v (omega arith)))
+  -- it is put in before the first that is higher
+  module _ (cut : ℕ) (c : cut ≤ length xs) (low : (i : ℕ) → i < cut → get_or xs i 0 < a) (high : (i : ℕ) → cut ≤ i → i < length xs → a ≤ get_or xs i 0) where
+    abbrev ys : List ℕ
+    ys = insert xs cut a
 
-  pub above_skip : (i : ℕ) (t : Tries) → Above l a xs i t → get_or xs i 0 ≤ a → Above l a xs (i + 1) t
-  above_skip i t B h = record {
-    bound = B.bound;
-    taken = B.taken;
-    past = B.past;
-    inside = B.inside;
-    done = λ p k m. ⊎_elim (λ u. B.done p u m) (λ u. absurd (let e : p ≡ i = omega arith in omega (arith, ap (λ q. get_or xs q 0) e))) (cases_lt p i);
-    ahead = λ p k m u. B.ahead p (omega arith) m u;
-  }
+    long : length ys ≡ length xs + 1
+    long = length-insert xs cut a c
 
-  pub above_take : (i : ℕ) (t : Tries) → Above l a xs i t → i < length xs → a < get_or xs i 0 → t.count < 33 → Above l a xs (i + 1) (one_more t (get_or xs i 0))
-  above_take i t B h m room = record {
-    bound = get_or xs i 0 + 1;
-    taken = try_more (get_or xs i 0) (reached l a) t (try_to B.bound (get_or xs i 0) (reached l a) t (B.ahead i (omega arith) h m) B.taken gap) room;
-    past = omega arith;
-    inside = omega (arith, on i h);
-    done = λ p k u. ⊎_elim (λ v. omega (arith, N.rising p i v h)) (λ v. let e : p ≡ i = omega arith in omega (arith, ap (λ q. get_or xs q 0) e)) (cases_lt p i);
-    ahead = λ p k u v. omega (arith, N.rising i p (omega arith) u);
-  }
-    where
-      gap : (z : ℕ) → B.bound ≤ z → z < get_or xs i 0 → reached l a z ≡ false
-      gap z k u = out z (λ e. omega (arith, B.past)) (λ p v e. ⊎_elim (λ w. omega (arith, B.past, B.done p w (omega (arith, B.past)))) (λ w. omega (arith, later i p w v)) (cases_lt p i))
+    above : (i : ℕ) → cut ≤ i → i < length xs → a < get_or xs i 0
+    above i h k = ⊎_elim (λ z. z) (λ z. absurd (apart i k (let v = high i h k in omega arith))) (cases_lt a (get_or xs i 0))
 
-  pub above_all : (t : Tries) → Above l a xs (length xs) t → Candidates (sections_of l) (reached l a) t
-  above_all t B = try_to B.bound (sections_of l) (reached l a) t B.inside B.taken gap
-    where
-      gap : (z : ℕ) → B.bound ≤ z → z < sections_of l → reached l a z ≡ false
-      gap z k u = out z (λ e. omega (arith, B.past)) (λ p v e. omega (arith, B.past, B.done p v (omega (arith, B.past))))
+    -- what stands at a place
+    before : (i : ℕ) → i < cut → get_or ys i 0 ≡ get_or xs i 0
+    before i h = get_or-insert_below xs cut a 0 i h c
+
+    here : get_or ys cut 0 ≡ a
+    here = get_or-insert_at xs cut a 0 c
+
+    after : (i : ℕ) → cut < i → get_or ys i 0 ≡ get_or xs (i - 1) 0
+    after i h = let e : i - 1 + 1 ≡ i = omega arith in subst (λ z. get_or ys z 0 ≡ get_or xs (i - 1) 0) e (get_or-insert_above xs cut a 0 (i - 1) (omega arith) c)
+
+    -- a property of each place
+    each : (P : ℕ → ℕ → Type 0) → ((i : ℕ) → i < cut → P i (get_or xs i 0)) → P cut a → ((i : ℕ) → cut < i → i < length ys → P i (get_or xs (i - 1) 0)) → (i : ℕ) → i < length ys → P i (get_or ys i 0)
+    each P f g k i h =
+        ⊎_elim
+        (λ u. subst (P i) (sym (before i u)) (f i u))
+        (λ u. ⊎_elim
+        (λ v. subst (P i) (sym (after i v)) (k i v h))
+        (λ v. let e : cut ≡ i = omega arith in subst (λ z. P z (get_or ys z 0)) e (subst (P cut) (sym here) g))
+        (cases_lt cut i))
+        (cases_lt i cut)
+
+    up : (i j : ℕ) → i < j → j < length ys → get_or ys i 0 < get_or ys j 0
+    up i j u h =
+        each (λ q y. i < q → get_or ys i 0 < y)
+        (λ q v w. subst (λ z. z < get_or xs q 0) (sym (before i (omega arith))) (N.rising i q w (omega arith)))
+        (λ w. subst (λ z. z < a) (sym (before i w)) (low i w))
+        (λ q v k w. let qx : q - 1 < length xs = omega (arith, long) in
+        each (λ p y. p < q → y < get_or xs (q - 1) 0)
+        (λ p m n. N.rising p (q - 1) (omega arith) qx)
+        (λ n. above (q - 1) (omega arith) qx)
+        (λ p m n o. N.rising (p - 1) (q - 1) (omega arith) qx)
+        i (omega arith) w)
+        j h u
+
+    pub candidates_all : a < sections_of l → Candidates (sections_of l) (reached l a) ys
+    candidates_all h = record {
+      few = omega (arith, long, few);
+      rising = up;
+      inside = each (λ i y. y < sections_of l) (λ i v. on i (omega arith)) h (λ i v k. on (i - 1) (omega (arith, long)));
+      every = λ x k e. ⊎_elim
+          (λ u. (cut, omega (arith, long), here ∙ eqb-true a x u))
+          (λ u. let w = N.every x u in ⊎_elim
+          (λ v. (w.0, omega (arith, long, w.1), before w.0 v ∙ w.2))
+          (λ v. (w.0 + 1, omega (arith, long, w.1), get_or-insert_above xs cut a 0 w.0 v c ∙ w.2))
+          (cases_lt w.0 cut))
+          (or_cases (eqb a x) (is_some (look l a x)) e);
+    }

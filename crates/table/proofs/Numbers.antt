@@ -30,9 +30,6 @@ decode_step n k (suc i) c at whole p ik kl e =
     let f : digits n i (c / n) ++ ((c % n) ∷ drop (suc i) (take k at)) ≡ whole = sym (append_snoc (digits n i (c / n)) (c % n) (drop (suc i) (take k at))) ∙ e in
     rw j (rw (a, b) f)
 
-pub power_more : (n i p : ℕ) → p ≡ n ^ i → p * n ≡ n ^ (i + 1)
-power_more n i p e = rw (e, add-one, pow-suc)
-
 -- eight trains on 32 sections have 2 ^ 40 joint positions
 pub power_size : (n k : ℕ) → n ≤ 32 → k ≤ 8 → n ^ k ≤ 2 ^ 40
 power_size n k nn kk =
@@ -41,12 +38,11 @@ power_size n k nn kk =
     let b = pow-le-pow_right z kk in
     omega arith
 
-pub power_fits : (n i k p : ℕ) → n ≤ 32 → k ≤ 8 → i < k → p ≡ n ^ i → p * n ≤ 2 ^ 40
-power_fits n i k p nn kk ik e =
-    let m : p * n ≡ n ^ suc i = rw (e, pow-suc) in
-    let s : suc i ≤ 8 = omega arith in
-    let b = power_size n (suc i) nn s in
-    omega arith
+-- a number below a power has a base
+pub base_some : (n k count c : ℕ) → count ≡ n ^ k → c < count → 0 < k → 0 < n
+base_some zero zero count c e h p = absurd (omega arith)
+base_some zero (suc k) count c e h p = absurd (omega (arith, pow-suc 0 k))
+base_some (suc n) k count c e h p = omega arith
 
 module _ (n : ℕ) (at : List ℕ) where
   pub code_below : (k : ℕ) → ((i : ℕ) → i < k → get_or at i 0 < n) → code_of n k at < n ^ k

@@ -1,5 +1,5 @@
 -- The moves to be tried.
-use Rattle.std.specs.Prelude.{◌≡◌, ℕ, ◌+◌, ◌<◌, ◌≤◌, Bool, true, ◌||◌, length, is_some, ◌==◌, slice_index, slice_set}
+use Rattle.std.specs.Prelude.{◌≡◌, ℕ, ◌<◌, ◌≤◌, Bool, true, ◌||◌, List, length, take, is_some, ◌==◌, slice_index}
 use Rattle.track.specs.Layouts.{look}
 use Rattle.track.specs.declared.layout.Layout.{Layout}
 use Rattle.table.specs.declared.tries.Tries.{Tries}
@@ -9,13 +9,12 @@ abbrev pub reached : Layout → ℕ → ℕ → Bool
 reached l a x = a == x || is_some (look l a x)
 
 -- sections below n in rising order, and every one in reach is among them
-pub record Candidates (n : ℕ) (reach : ℕ → Bool) (t : Tries) : Type 0 where
-  pub few : t.count ≤ 33
-  pub most : t.count ≤ n
-  pub long : length t.section ≡ 33
-  pub rising : (i j : ℕ) → i < j → j < t.count → slice_index t.section i < slice_index t.section j
-  pub inside : (i : ℕ) → i < t.count → slice_index t.section i < n
-  pub every : (x : ℕ) → x < n → reach x ≡ true → (i : ℕ) × (i < t.count) × (slice_index t.section i ≡ x)
+pub record Candidates (n : ℕ) (reach : ℕ → Bool) (xs : List ℕ) : Type 0 where
+  pub few : length xs ≤ 33
+  pub rising : (i j : ℕ) → i < j → j < length xs → slice_index xs i < slice_index xs j
+  pub inside : (i : ℕ) → i < length xs → slice_index xs i < n
+  pub every : (x : ℕ) → x < n → reach x ≡ true → (i : ℕ) × (i < length xs) × (slice_index xs i ≡ x)
 
-abbrev pub one_more : Tries → ℕ → Tries
-one_more t x = record { count = t.count + 1; section = slice_set t.section t.count x }
+-- the sections held
+abbrev pub tried : Tries → List ℕ
+tried t = take t.count t.section

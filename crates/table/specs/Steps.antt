@@ -1,13 +1,11 @@
 -- What the search of one joint step answers.
-use Rattle.std.specs.Prelude.{◌≡◌, ℕ, ◌+◌, ◌-◌, ◌*◌, ◌<◌, ◌≤◌, true, List, ◌++◌, take, is_some, Some, None, Option, slice_index, slice_index_or}
+use Rattle.std.specs.Prelude.{◌≡◌, ℕ, ◌+◌, ◌-◌, ◌*◌, ◌≤◌, true, List, ◌++◌, take, is_some, Some, None, Option, option_map}
 use Rattle.scales.specs.Measure.{Measure}
-use Rattle.scales.specs.Runs.{FirstLeast}
 use Rattle.words.specs.Words.{rest, best, first, choice}
 use Rattle.words.specs.Joint.{Task, turned, process}
 use Rattle.words.specs.Tasks.{begin}
 use Rattle.words.specs.Rests.{On}
 use Rattle.table.specs.declared.pick.Pick.{Pick}
-use Rattle.table.specs.declared.tries.Tries.{Tries}
 
 -- the moves to come: the trains from j on have yet to move in this step, and `left` steps come after it
 abbrev pub todo : Task → (left j : ℕ) → ℕ
@@ -17,10 +15,6 @@ todo K left j = (K.trains - j) + K.trains * left
 abbrev pub move_cost : {C : Type 0} → Measure C → Task → (left j : ℕ) (at to : List ℕ) → ℕ → Option C
 move_cost S K left j at to = choice S (process S K) (todo K left (j + 1)) (record { at = take K.trains at; to = take j to })
 
-abbrev pub cost_in : {C : Type 0} → Option (Pick C) → Option C
-cost_in None = None
-cost_in (Some p) = Some p.cost
-
 -- the section of the move, if there is one
 abbrev pub MovesTo : {C : Type 0} → Option (Pick C) → ℕ → Type 0
 MovesTo None x = Unit {0}
@@ -28,15 +22,14 @@ MovesTo (Some p) x = p.section ≡ x
 
 -- the search of a step may begin at the train j
 pub record Ready (K : Task) (j : ℕ) (at to : List ℕ) : Type 0 where
-  pub trains_most : K.trains ≤ 8
   pub in_group : j ≤ K.trains
   pub at_inside : On K K.trains at
   pub to_inside : On K j to
 
 -- the least cost of the rest of the step and of all the steps after it; and the first move of the train j that makes it up
 pub record Picked {C : Type 0} (S : Measure C) (K : Task) (left j : ℕ) (at to : List ℕ) (r : Option (Pick C)) : Type 0 where
-  pub cost : cost_in r ≡ rest S (process S K) (todo K left j) (turned K.trains (take K.trains at) (take j to))
-  pub goes : j < K.trains → MovesTo r (first S K.sections (move_cost S K left j at to))
+  pub cost : option_map (λ p. p.cost) r ≡ rest S (process S K) (todo K left j) (turned K.trains (take K.trains at) (take j to))
+  pub goes : MovesTo r (first S K.sections (move_cost S K left j at to))
 
 -- there is a way to go on for so many steps
 abbrev pub Can : {C : Type 0} → Measure C → Task → (steps : ℕ) → List ℕ → Type 0
@@ -47,19 +40,3 @@ pub record Stepped {C : Type 0} (S : Measure C) (K : Task) (left : ℕ) (at to :
   pub word : take K.trains to ++ best S (process S K) (K.trains * left) (begin K to) ≡ best S (process S K) (K.trains * (left + 1)) (begin K at)
   pub can : Can S K left to
   pub inside : On K K.trains to
-
--- the section at the place of the first of the least
-abbrev pub pick_at : {C : Type 0} → Tries → Option (ℕ × C) → Option (Pick C)
-pick_at t None = None
-pick_at t (Some p) = Some (record { cost = p.1; section = slice_index t.section p.0 })
-
--- the place is among those tried
-abbrev pub PlaceIn : {C : Type 0} → ℕ → Option (ℕ × C) → Type 0
-PlaceIn n None = Unit {0}
-PlaceIn n (Some p) = p.0 < n
-
--- the first of the least of the cells tried, as a move
-pub record LeastTried {C : Type 0} (S : Measure C) (t : Tries) (run : List (Option C)) (r : Option (Pick C)) : Type 0 where
-  pub found : Option (ℕ × C)
-  pub least : FirstLeast S t.count (λ i. slice_index_or run i None) found
-  pub pick : r ≡ pick_at t found

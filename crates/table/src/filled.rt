@@ -1,9 +1,8 @@
-// A worksheet that is filled: with so many steps left, the cost of a joint position is in the cell `left * size + code`,
-// where the code has the trains' sections as its digits.
+use crate::positions::Positions;
+
+// A worksheet that is filled: with so many steps left, the cost of the joint position of a number `code` is in the cell `left * count + code`.
 #[derive(Drop)]
-pub(crate) struct Filled<'a, C> {
-    pub cells: &'a [Option<C>],
-    pub sections: u8,
-    pub trains: usize,
-    pub size: usize,
+pub(crate) struct Filled<'a, 'b, C> {
+    pub(crate) cells: &'a [Option<C>],
+    pub(crate) positions: &'b Positions,
 }

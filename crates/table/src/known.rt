@@ -1,17 +1,15 @@
 ghost use Rattle.std.specs.Prelude.{◌≡◌};
 ghost use Rattle.table.specs.Columns.{Within, cell_at};
 
-use crate::codes::code_of;
 use crate::filled::Filled;
 use words::rests::Rests;
 
-impl<'a, C: Copy> Rests<C> for Filled<'a, C> {
+impl<'a, 'b, C: Copy> Rests<C> for Filled<'a, 'b, C> {
     ghost asked = { Within };
 
     ghost known = { cell_at };
 
     fn rest(&self, left: usize, at: [u8; 8]) -> Option<C> {
-        let code = code_of(self.sections, self.trains, at);
-        self.cells[left * self.size + code]
+        self.cells[left * self.positions.count + self.positions.code_of(at)]
     }
 }

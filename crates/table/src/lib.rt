@@ -4,11 +4,11 @@
 
 pub mod as_search;
 pub mod candidates;
-pub mod codes;
 pub mod fill;
 pub mod filled;
 pub mod known;
 pub mod pick;
+pub mod positions;
 pub mod read;
 pub mod step;
 pub mod table;

@@ -1,6 +1,11 @@
-// Sections to try, in rising order: the first `count` of the array.
-#[derive(Clone, Copy)]
+ghost use Rattle.std.specs.Prelude.{◌≤◌};
+
+pub mod adding;
+
+// Sections to try, in rising order: the first `count` of the array, which has room for all that a search may try (no memory is asked for).
+#[derive(Drop)]
 pub(crate) struct Tries {
-    pub count: usize,
-    pub section: [u8; 33],
+    count: usize,
+    section: [u8; 33],
+    ghost few: { count ≤ 33 },
 }

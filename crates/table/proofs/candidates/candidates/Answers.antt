@@ -1,48 +1,34 @@
-use Rattle.std.proofs.Common.{◌≡◌, ◌<◌, length, refl, ◌∙◌, arith}
-use Rattle.track.proofs.Laws.{sections_most}
-use Rattle.table.proofs.Merging.{below_none, below_skip, below_take, self_take, above_skip, above_take, above_all}
+use Rattle.std.proofs.Common.{◌≡◌, ℕ, length, ltb, take, drop, ap, subst, sym, arith, length-append, rules}
+use lib.Seq.{append_snoc}
+use Rattle.std.proofs.lemmas.Bool.Decides.{nat_tests}
+use Rattle.std.proofs.lemmas.List.Sorted.{IsPartitionPoint-from_clause, IsPartitionedBy-ltb, IsNonDecreasingBy-from_default}
+use Rattle.std.specs.List.{insert}
+use Rattle.track.specs.Layouts.{sections_of}
+use Rattle.table.specs.Candidates.{Candidates, reached, tried}
+use Rattle.table.proofs.Merging.{few, not_falling, candidates_all}
 use Rattle.table.proofs.candidates.candidates.Goals as goal
-use Rattle.table.proofs.candidates.candidates.Goals.{then-neighbours-i, else-neighbours-i, then-a-neighbours, else-a-neighbours}
 
-pub loop-i-init : goal.loop-i-init
-loop-i-init c = below_none _ _ _ c.neighbours-neighbours.ensures.the_linked_sections_in_rising_order _ refl refl
+pub extend-requires : goal.extend-requires
+extend-requires c =
+    omega (arith, ap length c.new-tries.ensures.nothing_yet, c.split_at.ensures.front_len, c.partition_point.ensures.bound, few _ _ _ c.neighbours-neighbours.ensures.the_linked_sections_in_rising_order)
 
-pub one_more-tries-requires : goal.one_more-tries-requires
-one_more-tries-requires c = omega (arith, c.loop-i.invariant.taken.most, c.loop-i.invariant.most, c.requires, sections_most c.args.layout.now)
+pub push-requires : goal.push-requires
+push-requires c =
+    omega (arith, length-append {A = ℕ}, ap length c.extend.ensures.with_those_after_it, ap length c.new-tries.ensures.nothing_yet, c.split_at.ensures.front_len, c.partition_point.ensures.bound, few _ _ _ c.neighbours-neighbours.ensures.the_linked_sections_in_rising_order)
 
-pub loop-i-preserved : goal.loop-i-preserved
-loop-i-preserved c =
-    let N = c.neighbours-neighbours.ensures.the_linked_sections_in_rising_order in
-    let room : c.loop-i.tries.count < 33 = omega (arith, c.loop-i.invariant.taken.most, c.loop-i.invariant.most, c.requires, sections_most c.args.layout.now) in
-    elim c.if-neighbours-i.branch [
-      | then-neighbours-i w ↦ rw (w.tries-is ∙ w.one_more-tries.ensures.with_one_section_more) (below_take c.args.layout.now c.args.a c.neighbours-neighbours.result.now N c.loop-i.i c.loop-i.tries c.loop-i.invariant c.loop-i-test.true w.if-neighbours-i.true room)
-      | else-neighbours-i w ↦ rw w.tries-is (below_skip c.args.layout.now c.args.a c.neighbours-neighbours.result.now N c.loop-i.i c.loop-i.tries c.loop-i.invariant w.if-neighbours-i.false)
-    ]
-
-pub one_more-tries-requires-2 : goal.one_more-tries-requires-2
-one_more-tries-requires-2 c = omega (arith, c.loop-i.invariant.taken.most, c.loop-i.invariant.most, c.requires, sections_most c.args.layout.now)
-
-pub loop-j-init : goal.loop-j-init
-loop-j-init c =
-    let N = c.neighbours-neighbours.ensures.the_linked_sections_in_rising_order in
-    let room : c.loop-i.tries.count < 33 = omega (arith, c.loop-i.invariant.taken.most, c.loop-i.invariant.most, c.requires, sections_most c.args.layout.now) in
-    let e : c.loop-i.i ≡ length c.neighbours-neighbours.result.now = omega (arith, c.loop-i-test.false, c.loop-i.auto) in
-    rw c.one_more-tries-2.ensures.with_one_section_more (self_take c.args.layout.now c.args.a c.neighbours-neighbours.result.now N c.loop-i.tries (rw e at c.loop-i.invariant) c.requires room)
-
-pub one_more-tries-requires-then-a-neighbours : goal.one_more-tries-requires-then-a-neighbours
-one_more-tries-requires-then-a-neighbours c = omega (arith, c.loop-j.invariant.taken.most, c.loop-j.invariant.inside, sections_most c.args.layout.now)
-
-pub loop-j-preserved : goal.loop-j-preserved
-loop-j-preserved c =
-    let N = c.neighbours-neighbours.ensures.the_linked_sections_in_rising_order in
-    let room : c.loop-j.tries.count < 33 = omega (arith, c.loop-j.invariant.taken.most, c.loop-j.invariant.inside, sections_most c.args.layout.now) in
-    elim c.if-a-neighbours.branch [
-      | then-a-neighbours w ↦ rw (w.tries-is ∙ w.one_more-tries-then-a-neighbours.ensures.with_one_section_more) (above_take c.args.layout.now c.args.a c.neighbours-neighbours.result.now N c.loop-j.j c.loop-j.tries c.loop-j.invariant c.loop-j-test.true w.if-a-neighbours.true room)
-      | else-a-neighbours w ↦ rw w.tries-is (above_skip c.args.layout.now c.args.a c.neighbours-neighbours.result.now N c.loop-j.j c.loop-j.tries c.loop-j.invariant w.if-a-neighbours.false)
-    ]
+pub extend-requires-2 : goal.extend-requires-2
+extend-requires-2 c =
+    omega (arith, length-append {A = ℕ}, ap length c.push.ensures.with_one_section_more, ap length c.extend.ensures.with_those_after_it, ap length c.new-tries.ensures.nothing_yet, c.split_at.ensures.front_len, c.split_at.ensures.back_len, c.partition_point.ensures.bound, few _ _ _ c.neighbours-neighbours.ensures.the_linked_sections_in_rising_order)
 
 pub returns : goal.returns
 returns c =
     let N = c.neighbours-neighbours.ensures.the_linked_sections_in_rising_order in
-    let e : c.loop-j.j ≡ length c.neighbours-neighbours.result.now = omega (arith, c.loop-j-test.false, c.loop-j.auto) in
-    record { every_section_in_reach_in_rising_order = above_all c.args.layout.now c.args.a c.neighbours-neighbours.result.now N c.loop-j.tries (rw e at c.loop-j.invariant) }
+    let P = IsPartitionPoint-from_clause (λ y. ltb y c.args.a) _ _ c.partition_point.ensures.partitioned
+    (IsPartitionedBy-ltb (λ y. y) _ c.args.a (IsNonDecreasingBy-from_default (λ y. y) _ 0 (not_falling _ _ _ N))) (λ x r q k. search rules) in
+    let e : tried c.extend-2.new.self ≡ insert c.neighbours-neighbours.result.now c.partition_point.result c.args.a =
+    rw (c.extend-2.ensures.with_those_after_it, c.push.ensures.with_one_section_more, c.extend.ensures.with_those_after_it, c.new-tries.ensures.nothing_yet, c.split_at.ensures.front, c.split_at.ensures.back)
+    (append_snoc (take c.partition_point.result c.neighbours-neighbours.result.now) c.args.a (drop c.partition_point.result c.neighbours-neighbours.result.now)) in
+    record {
+      every_section_in_reach_in_rising_order = subst (Candidates (sections_of c.args.layout.now) (reached c.args.layout.now c.args.a)) (sym e)
+          (candidates_all _ _ _ N c.partition_point.result c.partition_point.ensures.bound (λ i h. grind (arith, nat_tests, P.0 i 0 (omega arith) h)) (λ i h k. grind (arith, nat_tests, P.1 i 0 h k)) c.requires);
+    }

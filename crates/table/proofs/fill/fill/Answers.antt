@@ -1,34 +1,22 @@
-use Rattle.std.proofs.Common.{◌≡◌, ◌+◌, ◌*◌, ◌≤◌, length, refl, subst, add-mul, mul-le-mul, arith, rules}
-use Rattle.table.specs.Columns.{KeptFrom}
-use Rattle.table.proofs.Worksheets.{columns_to, kept_more}
+use Rattle.std.proofs.Common.{◌≡◌, ◌+◌, ◌*◌, ◌≤◌, length, sym, subst, mul-le-mul, arith, rules}
+use Rattle.words.specs.Tasks.{task}
+use Rattle.table.specs.Columns.{Columns}
+use Rattle.table.proofs.Worksheets.{columns_front, columns_more}
 use Rattle.table.proofs.fill.fill.Goals as goal
 
-pub fill_last-requires : goal.fill_last-requires
-fill_last-requires g c = record { based = c.requires.based; room = omega (arith, c.requires.room) }
-
-pub loop-left-init : goal.loop-left-init
-loop-left-init g c = (c.fill_last.ensures.the_column_is_filled, λ i h. refl)
-
-pub fill_next-requires : goal.fill_next-requires
-fill_next-requires g c =
-    let a : c.loop-left.left + 1 ≤ c.args.steps = omega (arith, c.loop-left-test.true) in
-    let s : c.args.size ≤ c.args.size = omega arith in
-    let m : (c.loop-left.left + 1) * c.args.size ≤ c.args.steps * c.args.size = mul-le-mul a s in
-    let k : length c.loop-left.cells ≡ length c.args.cells.now = search rules in
-    record { based = c.requires.based; room = omega (arith, c.requires.room); few = omega (arith, c.requires.few); columns = c.loop-left.invariant.0 }
+pub fill_next-requires-clause-columns : goal.fill_next-requires-clause-columns
+fill_next-requires-clause-columns g c =
+    rw c.split_at_mut-done.ensures.front (columns_front (g.S.Scale.measure c.args.board.now.scale.now) (task g.R.Rule.conflicts c.args.board.now) c.args.positions.now.count c.loop-left.left c.loop-left.cells c.loop-left.invariant)
 
 pub loop-left-preserved : goal.loop-left-preserved
 loop-left-preserved g c =
-    let m = add-mul c.loop-left.left 1 c.args.size in (
-      c.fill_next.ensures.the_column_is_filled,
-      kept_more (c.loop-left.left * c.args.size + c.args.size) ((c.loop-left.left + 1) * c.args.size + c.args.size) c.fill_last.new.cells c.loop-left.cells c.fill_next.new.cells (omega arith) c.loop-left.invariant.1 c.fill_next.ensures.the_cells_beyond_are_as_they_were,
-    )
-
-pub returns : goal.returns
-returns g c =
-    let e : c.loop-left.left ≡ c.args.steps = omega (arith, c.loop-left-test.false, c.loop-left.auto) in
-    record {
-      every_cell_has_the_least_cost_of_the_rest = columns_to _ _ c.args.size c.loop-left.left c.args.steps c.loop-left.cells e c.loop-left.invariant.0;
-      the_cells_beyond_are_as_they_were = kept_more c.args.size (c.args.steps * c.args.size + c.args.size) c.args.cells.now c.fill_last.new.cells c.loop-left.cells (omega arith) c.fill_last.ensures.the_cells_beyond_are_as_they_were
-          (subst (λ n. KeptFrom (n * c.args.size + c.args.size) c.fill_last.new.cells c.loop-left.cells) e c.loop-left.invariant.1);
-    }
+    let S = g.S.Scale.measure c.args.board.now.scale.now in
+    let K = task g.R.Rule.conflicts c.args.board.now in
+    let n = c.args.positions.now.count in
+    let a : c.loop-left.left + 1 ≤ c.args.board.now.steps = omega (arith, c.loop-left-test.true) in
+    let s : n ≤ n = omega arith in
+    let m : (c.loop-left.left + 1) * n ≤ c.args.board.now.steps * n = mul-le-mul a s in
+    let h : n ≤ length c.split_at_mut-done.result.1.now = omega (arith, c.split_at_mut-done.ensures.back_len, c.requires.room, c.loop-left.auto.cells) in
+    let f : length c.fill_next.new.column ≡ n = search rules in
+    columns_more S K n c.loop-left.left c.split_at_mut-done.result.0.now c.fill_next.new.column _ c.split_at_mut-done.ensures.front_len f
+    (subst (Columns S K c.loop-left.left n) (sym c.split_at_mut-done.ensures.front) (columns_front S K n c.loop-left.left c.loop-left.cells c.loop-left.invariant)) c.fill_next.ensures.the_column_is_filled

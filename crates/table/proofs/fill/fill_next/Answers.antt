@@ -1,29 +1,24 @@
-use Rattle.std.proofs.Common.{◌≡◌, ◌+◌, ◌*◌, ◌<◌, length, refl, add-mul, arith, rules}
-use Rattle.table.proofs.Worksheets.{partly_more, columns_kept, columns_more, kept_set}
+use Rattle.std.proofs.Common.{◌+◌, ◌∙◌, arith}
+use Rattle.std.proofs.lemmas.List.Edits.{fill_by_more}
+use Rattle.words.specs.Tasks.{task}
+use Rattle.table.specs.Columns.{due}
+use Rattle.table.proofs.Worksheets.{its_digits, ready_start, filled_knows, due_next}
 use Rattle.table.proofs.fill.fill_next.Goals as goal
 
-pub loop-code-init : goal.loop-code-init
-loop-code-init g c = (c.requires.columns, (λ i h. absurd (omega arith)), λ i h. refl)
-
-pub next_cost-requires : goal.next_cost-requires
-next_cost-requires g c =
-    let m = add-mul c.args.left 1 c.args.size in
-    let k : length c.loop-code.cells ≡ length c.args.cells.now = search rules in
-    record { based = c.requires.based; room = omega (arith, c.requires.room); columns = c.loop-code.invariant.0 }
+pub least_rest-requires : goal.least_rest-requires
+least_rest-requires g c =
+    let K = task g.R.Rule.conflicts c.args.board.now in
+    let p = c.args.filled.now.positions.now in
+    let d = its_digits K p c.loop-code.code c.decode-at.result c.requires.numbers c.decode-at.ensures.the_digits_of_the_code in
+    record {
+      ready = ready_start K p c.loop-code.code c.decode-at.result _ c.requires.numbers (omega (arith, c.loop-code-test.true, c.requires.a_cell_each)) d;
+      knows = filled_knows _ K c.args.filled.now c.args.left c.requires.numbers c.requires.room c.requires.columns;
+    }
 
 pub loop-code-preserved : goal.loop-code-preserved
 loop-code-preserved g c =
-    let k : length c.loop-code.cells ≡ length c.args.cells.now = search rules in
-    let l : (c.args.left + 1) * c.args.size + c.loop-code.code < length c.loop-code.cells = omega (arith, c.requires.room, c.loop-code-test.true) in (
-      columns_kept _ _ c.args.size c.args.left c.loop-code.code c.loop-code.cells c.next_cost.result c.loop-code.invariant.0,
-      partly_more _ _ c.args.size (c.args.left + 1) c.loop-code.code c.loop-code.cells c.next_cost.result l c.next_cost.ensures.the_cost_that_is_due c.loop-code.invariant.1,
-      kept_set _ _ c.args.cells.now c.loop-code.cells c.next_cost.result (omega (arith, c.loop-code-test.true)) c.loop-code.invariant.2,
-    )
-
-pub returns : goal.returns
-returns g c =
-    let e : c.loop-code.code ≡ c.args.size = omega (arith, c.loop-code-test.false, c.loop-code.auto) in
-    record {
-      the_column_is_filled = columns_more _ _ c.args.size c.args.left c.loop-code.cells c.loop-code.invariant.0 (λ i h. c.loop-code.invariant.1 i (omega arith));
-      the_cells_beyond_are_as_they_were = c.loop-code.invariant.2;
-    }
+    let S = g.S.Scale.measure c.args.board.now.scale.now in
+    let K = task g.R.Rule.conflicts c.args.board.now in
+    let d = its_digits K c.args.filled.now.positions.now c.loop-code.code c.decode-at.result c.requires.numbers c.decode-at.ensures.the_digits_of_the_code in
+    rw (c.least_rest.ensures.the_least_cost_of_the_rest ∙ due_next S K c.args.left c.loop-code.code c.decode-at.result c.args.board.now.some d)
+    (fill_by_more (due S K (c.args.left + 1)) c.loop-code.column c.loop-code.code _ (omega (arith, c.loop-code-test.true, c.loop-code.auto.column)) c.loop-code.invariant)
