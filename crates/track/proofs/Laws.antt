@@ -1,29 +1,30 @@
 -- What holds of every layout.
-use Rattle.std.proofs.Common.{◌≡◌, ℕ, ◌<◌, ◌≤◌, take, Some}
+use Rattle.std.proofs.Common.{◌≡◌, ℕ, ◌<◌, ◌≤◌, Some}
 use Rattle.track.specs.Layouts.{sections_of, look, fouled, LayoutLaws}
+use Rattle.track.specs.Model.{laid}
 use Rattle.track.specs.declared.layout.Layout.{Layout}
 use Rattle.track.proofs.Linking.{points_few, points_inside}
 use Rattle.track.proofs.Fouling.{fouled_by_swapped, fouled_by_turned}
 
 pub sections_most : (l : Layout) → sections_of l ≤ 32
 unfolding sections_of
-sections_most l = l.few
+sections_most l = l.drawing.few
 
 pub look_few : (l : Layout) (a b p : ℕ) → look l a b ≡ Some p → p ≤ 7
 unfolding look
-look_few l a b p e = points_few l.sections (take l.link_count l.links) a b p l.sound e
+look_few l a b p e = points_few (laid l).sections (laid l).links a b p l.drawing.sound e
 
 pub look_inside : (l : Layout) (a b p : ℕ) → look l a b ≡ Some p → (a < sections_of l) × (b < sections_of l)
 unfolding look sections_of
-look_inside l a b p e = points_inside l.sections (take l.link_count l.links) a b p l.sound e
+look_inside l a b p e = points_inside (laid l).sections (laid l).links a b p l.drawing.sound e
 
 pub fouled_swapped : (l : Layout) (a b c d : ℕ) → fouled l a b c d ≡ fouled l c d a b
 unfolding fouled
-fouled_swapped l a b c d = fouled_by_swapped (take l.foul_count l.fouls) a b c d
+fouled_swapped l a b c d = fouled_by_swapped (laid l).fouls a b c d
 
 pub fouled_turned : (l : Layout) (a b c d : ℕ) → fouled l a b c d ≡ fouled l b a c d
 unfolding fouled
-fouled_turned l a b c d = fouled_by_turned (take l.foul_count l.fouls) a b c d
+fouled_turned l a b c d = fouled_by_turned (laid l).fouls a b c d
 
 pub laws : (l : Layout) → LayoutLaws l
 laws l =

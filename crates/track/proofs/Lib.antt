@@ -1,6 +1,7 @@
 pub mod Linking
 pub mod Fouling
 pub mod Passing
-pub mod Charting
-pub mod Laws
+pub mod Listing
+pub mod Made
 pub mod Ends
+pub mod Laws

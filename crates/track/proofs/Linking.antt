@@ -1,85 +1,88 @@
--- Links: one step of a look through them, one link more, and more sections.
-use Rattle.std.proofs.Common.{◌≡◌, ℕ, ◌+◌, ◌<◌, ◌≤◌, Bool, true, false, cond, not, ◌⊎◌, List, [], ◌∷◌, ◌++◌, length, get_or, drop, is_some, Some, None, Option, sym, refl, ap, ◌∙◌, inl, inr, ⊎_elim, arith}
-use Rattle.std.proofs.lemmas.List.{at_drop_more}
-use Rattle.std.proofs.lemmas.Bool.{cond-true, cond-false, and_from, and_parts, not-true, or_parts, or_from, or_cases, or_left, or_right}
+-- Links: a look through them, one link more, and more sections.
+use Rattle.std.proofs.Common.{◌≡◌, ℕ, ◌+◌, ◌<◌, ◌≤◌, Bool, true, false, cond, not, ◌||◌, ◌⊎◌, List, [], ◌∷◌, ◌++◌, find, is_some, Some, Option, sym, refl, ap, ◌∙◌, inl, inr, ⊎_elim, arith}
+use Rattle.std.proofs.lemmas.Bool.{and_from, and_parts, not-true, or_parts, or_from, or_left}
 use Rattle.std.proofs.lemmas.Bool.Decides.{nat_tests}
+use Rattle.std.proofs.Math.Bool.{or_self}
+use Rattle.std.proofs.lemmas.List.Folds.{list_all-append, list_any-append}
+use Rattle.std.specs.List.{list_all, list_any}
+use Rattle.std.specs.Option.{option_map}
 use Rattle.track.specs.Links.{joins, points_of, linked_either, link_good, links_good, links_apart}
 use Rattle.track.specs.declared.link.Link.{Link}
 
--- ---- one step of the look
-module _ (links : List Link) (i a b : ℕ) (d : Link) (h : i < length links) where
-  pub points_found : joins (get_or links i d) a b ≡ true → points_of (drop i links) a b ≡ Some (get_or links i d).points
-  points_found e = at_drop_more (λ xs. points_of xs a b) links i d h ∙ cond-true _ _ _ e
+-- ---- a test of every element
+module _ {X : Type 0} (p : X → Bool) where
+  pub all_push : (xs : List X) (x : X) → list_all p xs ≡ true → p x ≡ true → list_all p (xs ++ (x ∷ [])) ≡ true
+  all_push xs x h g = list_all-append p xs (x ∷ []) ∙ and_from _ _ h (and_from _ _ g refl)
 
-  pub points_later : joins (get_or links i d) a b ≡ false → points_of (drop i links) a b ≡ points_of (drop (i + 1) links) a b
-  points_later e = at_drop_more (λ xs. points_of xs a b) links i d h ∙ cond-false _ _ _ e
+  pub all_still : (q : X → Bool) (xs : List X) → ((x : X) → p x ≡ true → q x ≡ true) → list_all p xs ≡ true → list_all q xs ≡ true
+  all_still q [] k h = refl
+  all_still q (x ∷ xs) k h = let g = and_parts (p x) (list_all p xs) h in and_from _ _ (k x g.0) (all_still q xs k g.1)
+
+-- ---- a look through the links
+joins_turned : (l : Link) (a b : ℕ) → joins l a b ≡ joins l b a
+joins_turned l a b = grind (arith, nat_tests)
+
+-- every link leads both ways
+pub points_turned : (ls : List Link) (a b : ℕ) → points_of ls a b ≡ points_of ls b a
+points_turned ls a b = λ i. option_map (λ (l : Link). l.points) (find (λ (l : Link). joins_turned l a b i) ls)
+
+-- a way is found where one of the links leads there
+found_under : (t : Bool) (l : Link) (o : Option Link) (b : Bool) → is_some (option_map (λ (k : Link). k.points) o) ≡ b → is_some (option_map (λ (k : Link). k.points) (cond t (Some l) o)) ≡ (t || b)
+found_under true l o b h = refl
+found_under false l o b h = h
+
+found_any : (ls : List Link) (a b : ℕ) → is_some (points_of ls a b) ≡ list_any (λ (l : Link). joins l a b) ls
+found_any [] a b = refl
+found_any (l ∷ ls) a b = found_under (joins l a b) l (find (λ (k : Link). joins k a b) ls) (list_any (λ (k : Link). joins k a b) ls) (found_any ls a b)
+
+pub linked_any : (ls : List Link) (a b : ℕ) → list_any (λ (l : Link). joins l a b) ls ≡ linked_either ls a b
+linked_any ls a b =
+    sym (found_any ls a b) ∙ sym (or_self (is_some (points_of ls a b)))
+    ∙ ap (λ (o : Option ℕ). is_some (points_of ls a b) || is_some o) (points_turned ls a b)
 
 -- ---- one link more
-pub links_good_push : (n : ℕ) (ls : List Link) (x : Link) → links_good n ls ≡ true → link_good n x ≡ true → links_good n (ls ++ (x ∷ [])) ≡ true
-links_good_push n [] x h g = and_from _ _ g refl
-links_good_push n (l ∷ ls) x h g = let p = and_parts (link_good n l) (links_good n ls) h in and_from _ _ p.0 (links_good_push n ls x p.1 g)
+module _ (ls : List Link) (x : Link) (a b : ℕ) where
+  pub linked_push : linked_either ls a b ≡ true → linked_either (ls ++ (x ∷ [])) a b ≡ true
+  linked_push h =
+      sym (linked_any (ls ++ (x ∷ [])) a b) ∙ list_any-append (λ (l : Link). joins l a b) ls (x ∷ [])
+      ∙ or_left _ _ (linked_any ls a b ∙ h)
 
--- a list has no way where its first link has none and the others have none
-none_in_parts : (t : Bool) (p : ℕ) (o : Option ℕ) → is_some (cond t (Some p) o) ≡ false → (t ≡ false) × (is_some o ≡ false)
-none_in_parts true p o h = absurd (let z : ◌≡◌ {A = ℕ} 0 1 = cc in omega arith)
-none_in_parts false p o h = (refl, h)
-
-none_push : (ls : List Link) (x : Link) (a b : ℕ) → is_some (points_of ls a b) ≡ false → joins x a b ≡ false → is_some (points_of (ls ++ (x ∷ [])) a b) ≡ false
-none_push [] x a b h e = ap is_some (cond-false (joins x a b) (Some x.points) None e)
-none_push (l ∷ ls) x a b h e =
-    let p = none_in_parts (joins l a b) l.points (points_of ls a b) h in
-    ap is_some (cond-false (joins l a b) (Some l.points) (points_of (ls ++ (x ∷ [])) a b) p.0) ∙ none_push ls x a b p.1 e
-
--- a way that is there stays
-kept_under : (t : Bool) (p : ℕ) (o q : Option ℕ) → (is_some o ≡ true → is_some q ≡ true) → is_some (cond t (Some p) o) ≡ true → is_some (cond t (Some p) q) ≡ true
-kept_under true p o q k h = refl
-kept_under false p o q k h = k h
-
-some_push : (ls : List Link) (x : Link) (a b : ℕ) → is_some (points_of ls a b) ≡ true → is_some (points_of (ls ++ (x ∷ [])) a b) ≡ true
-some_push [] x a b h = absurd (let z : ◌≡◌ {A = ℕ} 0 1 = cc in omega arith)
-some_push (l ∷ ls) x a b h =
-    kept_under (joins l a b) l.points (points_of ls a b) (points_of (ls ++ (x ∷ [])) a b) (some_push ls x a b) h
-
-pub linked_push : (ls : List Link) (x : Link) (a b : ℕ) → linked_either ls a b ≡ true → linked_either (ls ++ (x ∷ [])) a b ≡ true
-linked_push ls x a b h =
-    ⊎_elim (λ e. or_left _ _ (some_push ls x a b e)) (λ e. or_right _ _ (some_push ls x b a e))
-    (or_cases (is_some (points_of ls a b)) (is_some (points_of ls b a)) h)
+  not_linked_push : linked_either ls a b ≡ false → joins x a b ≡ false → linked_either (ls ++ (x ∷ [])) a b ≡ false
+  not_linked_push h e =
+      sym (linked_any (ls ++ (x ∷ [])) a b) ∙ list_any-append (λ (l : Link). joins l a b) ls (x ∷ [])
+      ∙ or_from _ _ (linked_any ls a b ∙ h) (or_from _ _ e refl)
 
 -- of two links each is found between the other's ends, or neither
 joins_each : (l x : Link) → joins l x.a x.b ≡ joins x l.a l.b
 joins_each l x = grind (arith, nat_tests)
 
-joins_each_back : (l x : Link) → joins l x.b x.a ≡ joins x l.b l.a
-joins_each_back l x = grind (arith, nat_tests)
-
 pub links_apart_push : (ls : List Link) (x : Link) → links_apart ls ≡ true → linked_either ls x.a x.b ≡ false → links_apart (ls ++ (x ∷ [])) ≡ true
 links_apart_push [] x h g = refl
 links_apart_push (l ∷ ls) x h g =
     let p = and_parts (not (linked_either ls l.a l.b)) (links_apart ls) h in
-    let o = or_parts (is_some (points_of ls l.a l.b)) (is_some (points_of ls l.b l.a)) (not-true _ p.0) in
-    let q = or_parts (is_some (points_of (l ∷ ls) x.a x.b)) (is_some (points_of (l ∷ ls) x.b x.a)) g in
-    let there = none_in_parts (joins l x.a x.b) l.points (points_of ls x.a x.b) q.0 in
-    let back = none_in_parts (joins l x.b x.a) l.points (points_of ls x.b x.a) q.1 in
-    and_from _ _
-    (ap not
-    (or_from _ _
-    (none_push ls x l.a l.b o.0 (sym (joins_each l x) ∙ there.0))
-    (none_push ls x l.b l.a o.1 (sym (joins_each_back l x) ∙ back.0))))
-    (links_apart_push ls x p.1 (or_from _ _ there.1 back.1))
+    let q = or_parts (joins l x.a x.b) (list_any (λ (k : Link). joins k x.a x.b) ls) (linked_any (l ∷ ls) x.a x.b ∙ g) in
+    and_from _ _ (ap not (not_linked_push ls x l.a l.b (not-true _ p.0) (sym (joins_each l x) ∙ q.0)))
+    (links_apart_push ls x p.1 (sym (linked_any ls x.a x.b) ∙ q.1))
 
 -- ---- more sections
 good_more : (n k : ℕ) (l : Link) → link_good n l ≡ true → link_good (n + k) l ≡ true
 good_more n k l h = grind (arith, nat_tests)
 
 pub links_good_wider : (n k : ℕ) (ls : List Link) → links_good n ls ≡ true → links_good (n + k) ls ≡ true
-links_good_wider n k [] h = refl
-links_good_wider n k (l ∷ ls) h =
-    let p = and_parts (link_good n l) (links_good n ls) h in and_from _ _ (good_more n k l p.0) (links_good_wider n k ls p.1)
+links_good_wider n k ls h = all_still (λ (l : Link). link_good n l) (λ (l : Link). link_good (n + k) l) ls (good_more n k) h
 
 -- ---- what a look finds
-found_in_parts : (t : Bool) (p q : ℕ) (o : Option ℕ) → cond t (Some q) o ≡ Some p → ((t ≡ true) × (q ≡ p)) ⊎ (o ≡ Some p)
-found_in_parts true p q o h = inl (refl, cc)
-found_in_parts false p q o h = inr h
+found_in_parts : (t : Bool) (l : Link) (o : Option Link) (p : ℕ) → option_map (λ (k : Link). k.points) (cond t (Some l) o) ≡ Some p → ((t ≡ true) × (l.points ≡ p)) ⊎ (option_map (λ (k : Link). k.points) o ≡ Some p)
+found_in_parts true l o p h = inl (refl, cc)
+found_in_parts false l o p h = inr h
+
+-- a link that is found is good
+found_good : (n : ℕ) (ls : List Link) (a b p : ℕ) → links_good n ls ≡ true → points_of ls a b ≡ Some p → (l : Link) × (link_good n l ≡ true) × (joins l a b ≡ true) × (l.points ≡ p)
+found_good n [] a b p h e = absurd (let z : ◌≡◌ {A = ℕ} 0 1 = cc in omega arith)
+found_good n (l ∷ ls) a b p h e =
+    let g = and_parts (link_good n l) (links_good n ls) h in
+    ⊎_elim (λ f. (l, g.0, f.0, f.1)) (λ f. found_good n ls a b p g.1 f)
+    (found_in_parts (joins l a b) l (find (λ (k : Link). joins k a b) ls) p e)
 
 few_here : (n : ℕ) (l : Link) → link_good n l ≡ true → l.points ≤ 7
 few_here n l h = grind (arith, nat_tests)
@@ -87,27 +90,9 @@ few_here n l h = grind (arith, nat_tests)
 inside_here : (n : ℕ) (l : Link) (a b : ℕ) → link_good n l ≡ true → joins l a b ≡ true → (a < n) × (b < n)
 inside_here n l a b h e = (grind (arith, nat_tests), grind (arith, nat_tests))
 
--- a link that is found is good
-pub points_few : (n : ℕ) (ls : List Link) (a b p : ℕ) → links_good n ls ≡ true → points_of ls a b ≡ Some p → p ≤ 7
-points_few n [] a b p h e = absurd (let z : ◌≡◌ {A = ℕ} 0 1 = cc in omega arith)
-points_few n (l ∷ ls) a b p h e =
-    let g = and_parts (link_good n l) (links_good n ls) h in
-    ⊎_elim (λ f. let few = few_here n l g.0 in omega (arith, f.1)) (λ f. points_few n ls a b p g.1 f)
-    (found_in_parts (joins l a b) p l.points (points_of ls a b) e)
+module _ (n : ℕ) (ls : List Link) (a b p : ℕ) (h : links_good n ls ≡ true) (e : points_of ls a b ≡ Some p) where
+  pub points_few : p ≤ 7
+  points_few = let f = found_good n ls a b p h e in let few = few_here n f.0 f.1 in omega (arith, f.3)
 
-pub points_inside : (n : ℕ) (ls : List Link) (a b p : ℕ) → links_good n ls ≡ true → points_of ls a b ≡ Some p → (a < n) × (b < n)
-points_inside n [] a b p h e = absurd (let z : ◌≡◌ {A = ℕ} 0 1 = cc in omega arith)
-points_inside n (l ∷ ls) a b p h e =
-    let g = and_parts (link_good n l) (links_good n ls) h in
-    ⊎_elim (λ f. inside_here n l a b g.0 f.0) (λ f. points_inside n ls a b p g.1 f)
-    (found_in_parts (joins l a b) p l.points (points_of ls a b) e)
-
--- ---- every link leads both ways
-joins_turned : (l : Link) (a b : ℕ) → joins l a b ≡ joins l b a
-joins_turned l a b = grind (arith, nat_tests)
-
-pub points_turned : (ls : List Link) (a b : ℕ) → points_of ls a b ≡ points_of ls b a
-points_turned [] a b = refl
-points_turned (l ∷ ls) a b =
-    ap (λ t. cond t (Some l.points) (points_of ls a b)) (joins_turned l a b)
-    ∙ ap (λ o. cond (joins l b a) (Some l.points) o) (points_turned ls a b)
+  pub points_inside : (a < n) × (b < n)
+  points_inside = let f = found_good n ls a b p h e in inside_here n f.0 a b f.1 f.2

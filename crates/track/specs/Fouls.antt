@@ -1,5 +1,6 @@
 -- Fouls as a list, in the order in which they were drawn.
-use Rattle.std.specs.Prelude.{ℕ, Bool, true, false, not, ◌&&◌, ◌||◌, List, [], ◌∷◌}
+use Rattle.std.specs.Prelude.{ℕ, Bool, true, not, ◌&&◌, ◌||◌, List, [], ◌∷◌}
+use Rattle.std.specs.List.{list_any, list_all}
 use Rattle.track.specs.Links.{same_link, linked_either}
 use Rattle.track.specs.declared.foul.Foul.{Foul}
 use Rattle.track.specs.declared.link.Link.{Link}
@@ -12,8 +13,7 @@ crosses f a b c d =
 
 -- whether one of the fouls is of the links a-b and c-d
 abbrev pub fouled_by : List Foul → ℕ → ℕ → ℕ → ℕ → Bool
-fouled_by [] a b c d = false
-fouled_by (f ∷ fs) a b c d = crosses f a b c d || fouled_by fs a b c d
+fouled_by fs a b c d = list_any (λ (f : Foul). crosses f a b c d) fs
 
 -- whether the foul names two links that are there, and two different ones
 abbrev pub foul_good : List Link → Foul → Bool
@@ -23,8 +23,7 @@ foul_good ls f =
 
 -- whether every foul names two different links that are there
 abbrev pub fouls_good : List Link → List Foul → Bool
-fouls_good ls [] = true
-fouls_good ls (f ∷ fs) = foul_good ls f && fouls_good ls fs
+fouls_good ls fs = list_all (λ (f : Foul). foul_good ls f) fs
 
 -- whether no foul is there twice
 abbrev pub fouls_apart : List Foul → Bool

@@ -1,5 +1,7 @@
 -- Links as a list, in the order in which they were drawn.
-use Rattle.std.specs.Prelude.{ℕ, Bool, true, cond, not, ◌&&◌, ◌||◌, List, [], ◌∷◌, is_some, Some, None, Option, ◌==◌, nat_le, nat_lt}
+use Rattle.std.specs.Prelude.{ℕ, Bool, true, not, ◌&&◌, ◌||◌, List, [], ◌∷◌, find, is_some, Option, ◌==◌, nat_le, nat_lt}
+use Rattle.std.specs.List.{list_all}
+use Rattle.std.specs.Option.{option_map}
 use Rattle.track.specs.declared.link.Link.{Link}
 
 -- whether a-b and c-d name the same two sections, from whichever end
@@ -12,8 +14,7 @@ joins l a b = same_link l.a l.b a b
 
 -- the points of the first link that leads from a to b
 abbrev pub points_of : List Link → ℕ → ℕ → Option ℕ
-points_of [] a b = None
-points_of (l ∷ ls) a b = cond (joins l a b) (Some l.points) (points_of ls a b)
+points_of ls a b = option_map (λ (l : Link). l.points) (find (λ (l : Link). joins l a b) ls)
 
 -- whether there is a link between a and b, from whichever end
 abbrev pub linked_either : List Link → ℕ → ℕ → Bool
@@ -26,8 +27,7 @@ link_good n l = nat_lt l.a n && (nat_lt l.b n && (not (l.a == l.b) && nat_le l.p
 
 -- whether every link may stand on a drawing of n sections
 abbrev pub links_good : ℕ → List Link → Bool
-links_good n [] = true
-links_good n (l ∷ ls) = link_good n l && links_good n ls
+links_good n ls = list_all (λ (l : Link). link_good n l) ls
 
 -- whether no two sections are linked twice
 abbrev pub links_apart : List Link → Bool

@@ -25,12 +25,7 @@ drawn d =
 
 -- what the layout holds
 abbrev pub laid : Layout → Model
-laid l =
-    record {
-      sections = l.sections;
-      links = take l.link_count l.links;
-      fouls = take l.foul_count l.fouls;
-    }
+laid l = drawn l.drawing
 
 -- nothing drawn
 abbrev pub blank : Model

@@ -6,11 +6,13 @@ use crate::foul::Foul;
 use crate::link::Link;
 
 pub mod draw;
+pub mod read;
 
 // A layout that is still being drawn.
 #[derive(Drop)]
 pub struct Drawing {
     sections: u8,
+    // Each table has a fixed size, and a count of what is filled: no call may fail for want of memory.
     link_count: usize,
     links: [Link; 64],
     foul_count: usize,

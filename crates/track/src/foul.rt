@@ -13,23 +13,20 @@ pub struct Foul {
 }
 
 impl Foul {
-    // Whether the two links are a-b and c-d, in either order, each from either end.
-    pub(crate) fn is_of(&self, a: u8, b: u8, c: u8, d: u8) -> bool
-        ensures whether_it_is_of_these_links { result ≡ crosses self.now a b c d }
+    // Whether the two links are those of `other`, in either order, each from either end.
+    pub(crate) fn is_of(&self, other: &Foul) -> bool
+        ensures whether_it_is_of_these_links { result ≡ crosses self.now other.now.a other.now.b other.now.c other.now.d }
     {
-        (same_link(self.a, self.b, a, b) && same_link(self.c, self.d, c, d))
-            || (same_link(self.a, self.b, c, d) && same_link(self.c, self.d, a, b))
+        let (one, two) = ((self.a, self.b), (self.c, self.d));
+        let (first, second) = ((other.a, other.b), (other.c, other.d));
+        (same_link(one, first) && same_link(two, second))
+            || (same_link(one, second) && same_link(two, first))
     }
 }
 
-// Whether one of the fouls is of the links a-b and c-d.
-pub(crate) fn fouled_in(fouls: &[Foul], a: u8, b: u8, c: u8, d: u8) -> bool
-    ensures whether_one_is_of_these_links { result ≡ fouled_by fouls.now a b c d }
+// Whether one of the fouls is of the links of `foul`.
+pub(crate) fn fouled_in(fouls: &[Foul], foul: &Foul) -> bool
+    ensures whether_one_is_of_these_links { result ≡ fouled_by fouls.now foul.now.a foul.now.b foul.now.c foul.now.d }
 {
-    for foul in fouls {
-        if foul.is_of(a, b, c, d) {
-            return true;
-        }
-    }
-    false
+    fouls.iter().any(|other| other.is_of(foul))
 }

@@ -14,32 +14,31 @@ impl Link {
     pub(crate) fn runs_between(&self, a: u8, b: u8) -> bool
         ensures whether_the_link_leads_there { result ≡ joins self.now a b }
     {
-        same_link(self.a, self.b, a, b)
+        same_link((self.a, self.b), (a, b))
     }
 }
 
-// Whether a-b and c-d name the same two sections, from whichever end.
-pub(crate) fn same_link(a: u8, b: u8, c: u8, d: u8) -> bool
-    ensures whether_they_name_one_link { result ≡ same_link a b c d }
+// Whether the two pairs name the same two sections, from whichever end.
+pub(crate) fn same_link(one: (u8, u8), other: (u8, u8)) -> bool
+    ensures whether_they_name_one_link { result ≡ same_link one.0 one.1 other.0 other.1 }
 {
-    (a == c && b == d) || (a == d && b == c)
+    let (c, d) = other;
+    one == (c, d) || one == (d, c)
 }
 
 // The points on the way from `a` to `b`, if a link leads there.
 pub(crate) fn points_in(links: &[Link], a: u8, b: u8) -> Option<u8>
     ensures the_points_of_the_first_that_leads_there { result ≡ points_of links.now a b }
 {
-    for link in links {
-        if link.runs_between(a, b) {
-            return Some(link.points);
-        }
-    }
-    None
+    links
+        .iter()
+        .find(|link| link.runs_between(a, b))
+        .map(|link| link.points)
 }
 
 // Whether there is a link between `a` and `b`, from whichever end.
 pub(crate) fn linked_in(links: &[Link], a: u8, b: u8) -> bool
     ensures whether_a_link_joins_them { result ≡ linked_either links.now a b }
 {
-    points_in(links, a, b).is_some() || points_in(links, b, a).is_some()
+    links.iter().any(|link| link.runs_between(a, b))
 }

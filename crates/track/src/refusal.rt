@@ -41,6 +41,7 @@ impl Refusal {
     pub fn number(&self) -> u8
         ensures the_number_of_the_reason { result ≡ number_of self.now }
     {
+        // Discriminants would not do for this: one reason carries a place, so the enum has no `as u8`.
         match *self {
             Refusal::NoSuchSection => 1,
             Refusal::TooManySections => 2,

@@ -1,9 +1,15 @@
+ghost use Rattle.std.specs.Prelude.{◌≡◌, ◌≤◌, take, is_some, None, slice_index_or};
+ghost use Rattle.track.specs.Ways.{passing};
+
 pub mod find;
 
-// The ways from a section: the points on the way to each section, and the sections that a link leads to, in rising order.
+// The ways from a section: the points on the way to each section, and the sections that a way leads to, in rising order.
 #[derive(Clone, Copy)]
 pub struct Ways {
     points: [Option<u8>; 32],
+    // The table has a fixed size, and a count of what is filled: no call may fail for want of memory.
     count: usize,
     ends: [u8; 32],
+    ghost room: { count ≤ 32 },
+    ghost listed: { take count ends ≡ passing (λ b. is_some (slice_index_or points b None)) 32 },
 }

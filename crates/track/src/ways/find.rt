@@ -1,23 +1,25 @@
-ghost use Rattle.std.specs.Prelude.{◌≡◌, ℕ, ◌<◌, ◌≤◌, take, None, slice_index_or};
-ghost use Rattle.track.specs.Links.{points_of};
-ghost use Rattle.track.specs.Ways.{WaysFrom, no_ways};
+ghost use Rattle.std.specs.Prelude.{◌≡◌, map, take, slice_index_or};
+ghost use Rattle.track.specs.Ways.{points_along, charted};
+ghost use Rattle.track.specs.declared.ways.Ways.{Ways};
 
 use crate::link::{Link, points_in};
 use crate::ways::Ways;
+use std::array;
 
 impl Ways {
     // The ways from `a` over the links.
     pub(crate) fn over(links: &[Link], a: u8) -> Ways
-        ensures the_ways_from_the_section { WaysFrom links.now a result }
+        ensures the_points_on_each_way { result.points ≡ points_along links.now a }
     {
         let points = points_from(links, a);
-        let mut count: usize = 0;
         let mut ends = [0; 32];
-        for b in 0..32u8 {
-            if points[b as usize].is_some() {
-                ends[count] = b;
-                count += 1;
-            }
+        let mut count = 0;
+        for (place, b) in (0..32u8)
+            .filter(|b| way_to(&points, *b).is_some())
+            .enumerate()
+        {
+            ends[place] = b;
+            count = place + 1;
         }
         Ways {
             points,
@@ -28,43 +30,36 @@ impl Ways {
 
     // The points on the way to `b`.
     pub(crate) fn points_to(&self, b: u8) -> Option<u8>
-        requires { b < 32 }
         ensures the_points_on_the_way { result ≡ slice_index_or self.now.points b None }
     {
-        self.points[b as usize]
+        way_to(&self.points, b)
     }
 
     // The sections that a link leads to.
     pub(crate) fn ends(&self) -> &[u8]
-        requires { self.now.count ≤ 32 }
         ensures the_sections_that_a_link_leads_to { result.now ≡ take self.now.count self.now.ends }
     {
-        &self.ends[0..self.count]
+        &self.ends[..self.count]
     }
+}
+
+// The points on the way to `b`, of those on the way to each section.
+fn way_to(points: &[Option<u8>; 32], b: u8) -> Option<u8>
+    ensures the_points_at_its_place { result ≡ slice_index_or points.now b None }
+{
+    *points.get(usize::from(b))?
 }
 
 // The points on the way from `a` to each section.
 fn points_from(links: &[Link], a: u8) -> [Option<u8>; 32]
-    ensures the_points_to_each_section { (b : ℕ) → b < 32 → slice_index_or result b None ≡ points_of links.now a b }
+    ensures the_points_to_each_section { result ≡ points_along links.now a }
 {
-    let mut row = [None; 32];
-    for b in 0..32u8 {
-        row[b as usize] = points_in(links, a, b);
-    }
-    row
+    array::from_fn(|b| points_in(links, a, b as u8))
 }
 
 // The ways from each section over the links.
 pub(crate) fn chart(links: &[Link]) -> [Ways; 32]
-    ensures the_ways_from_each_section { (a : ℕ) → a < 32 → WaysFrom links.now a (slice_index_or result a no_ways) }
+    ensures the_ways_from_each_section { map (λ (w : Ways). w.points) result ≡ charted links.now }
 {
-    let mut ways = [Ways {
-        points: [None; 32],
-        count: 0,
-        ends: [0; 32],
-    }; 32];
-    for a in 0..32u8 {
-        ways[a as usize] = Ways::over(links, a);
-    }
-    ways
+    array::from_fn(|a| Ways::over(links, a as u8))
 }

@@ -1,19 +1,23 @@
-use Rattle.std.proofs.Common.{◌≤◌, ◌⊎◌, ◌∙◌, inl, inr, arith}
-use Rattle.track.proofs.Ends.{look_none, look_held}
+use Rattle.std.proofs.Common.{ℕ, get_or, ap, ◌∙◌, inl, arith}
+use Rattle.track.proofs.Ends.{look_none, points_held, ways_long}
 use Rattle.track.proofs.layout.Layout.points.Goals as goal
-use Rattle.track.proofs.layout.Layout.points.Goals.{then-a-self-via-then-a-self, then-a-self-via-else-a-self+then-b-self}
 
-pub returns-then-a-self : goal.returns-then-a-self
-returns-then-a-self c =
-    let outside : (c.args.self.now.sections ≤ c.args.a) ⊎ (c.args.self.now.sections ≤ c.args.b) =
-    elim c.then-a-self.branch [
-      | then-a-self-via-then-a-self w ↦ inl w.if-a-self.true
-      | then-a-self-via-else-a-self+then-b-self w ↦ inr w.if-b-self.true
-    ]
-    in
-    record { the_points_of_the_link = look_none c.args.self.now c.args.a c.args.b outside }
+pub returns-in_err-get : goal.returns-in_err-get
+returns-in_err-get c =
+    let l = c.args.self.now in
+    let long = ways_long l in
+    record {
+      the_points_of_the_link = c.from_residual.ensures
+          ∙ look_none l c.args.a c.args.b (inl (omega (arith, l.drawing.few, c.in_err-get.ensures.lookup.3)));
+    }
 
 pub returns : goal.returns
 returns c =
     let l = c.args.self.now in
-    record { the_points_of_the_link = c.points_to.ensures.the_points_on_the_way ∙ look_held l c.args.a c.args.b (omega arith) (omega arith) }
+    let long = ways_long l in
+    let w = c.in_ok-get.field-0.now in
+    let found = c.in_ok-get.ensures.lookup in
+    let here = found.1 ∙ ap (λ (i : ℕ). get_or l.ways i w) c.from.ensures in
+    record {
+      the_points_of_the_link = c.points_to.ensures.the_points_on_the_way ∙ points_held l c.args.a w w (omega (arith, found.3.0, c.from.ensures)) here c.args.b;
+    }

@@ -1,43 +1,44 @@
-use Rattle.std.proofs.Common.{◌≡◌, ℕ, ◌<◌, Bool, length, take, is_some, sym, refl, ap, ◌∙◌, ap₂, arith}
-use Rattle.std.proofs.lemmas.List.{length-set}
-use Rattle.track.specs.Links.{points_of}
-use Rattle.track.specs.Ways.{passing, neighbours_of}
-use Rattle.track.proofs.Passing.{passing_push, passing_out}
+use Rattle.std.proofs.Common.{◌≡◌, ℕ, Bool, ◌<◌, ◌∙◌, is_some, length, get_or, None, refl, sym, arith, rules, tests}
+use Rattle.std.proofs.lemmas.Iterator.{YieldsList-from_range}
+use Rattle.std.proofs.lemmas.Iterator.Consumers.{YieldsList-at, YieldsList-from_filter, YieldsList-from_enumerate, YieldsList-turn, YieldsList-end}
+use Rattle.std.proofs.lemmas.List.{length-set, length_push}
+use Rattle.track.specs.Ways.{passing}
+use Rattle.track.proofs.Listing.{front_more, place_of, all_listed}
 use Rattle.track.proofs.ways.Ways.over.Goals as goal
-use Rattle.track.proofs.ways.Ways.over.Goals.{then-is_some, else-is_some}
 
-pub loop-b-init : goal.loop-b-init
+-- the place of this turn
+here : (c : goal.In-Some) → (c.in-Some.place ≡ length c.loop-place.yielded) × (c.in-Some.place < 32)
+here c =
+    let led : ℕ → Bool = λ b. is_some (get_or c.points_from-points.result b None) in
+    place_of led c.loop-place.yielded c.in-Some.place c.in-Some.b
+    (YieldsList-turn
+    (YieldsList-at c.into_iter-place-iterator.ensures.into_iter_gives
+    (YieldsList-from_enumerate (YieldsList-at c.enumerate-place-items.ensures.source (YieldsList-from_filter _ led (YieldsList-from_range 0 32 32 (cc) refl) c.filter.ensures.closure (λ x b q k. search (rules, tests)))) (cc)))
+    c.loop-place.yielded _ c.loop-place.yielded_by _ c.next.new.self (c.in-Some.place, c.in-Some.b) c.in-Some.is c.next.ensures.steps)
+
+pub bounds-ends-place : goal.bounds-ends-place
+bounds-ends-place c = let h = here c in omega (arith, h.1)
+
+pub loop-place-preserved : goal.loop-place-preserved
+loop-place-preserved c =
+    let h = here c in
+    let inv = c.loop-place.invariant in
+    let place = c.in-Some.place in
+    let more = length_push c.loop-place.yielded (place, c.in-Some.b) in
+    record {
+      long = simp length-set inv.long;
+      counted = omega (arith, h.0);
+      front = front_more c.loop-place.ends c.loop-place.count place c.in-Some.b c.loop-place.yielded (inv.counted ∙ sym h.0) (omega (arith, h.1)) inv.front;
+    }
+
+pub invariant_of-result : goal.invariant_of-result
 unfolding passing
-loop-b-init c = (refl, omega arith, refl)
-
-pub loop-b-preserved : goal.loop-b-preserved
-loop-b-preserved c =
-    let led : ℕ → Bool = λ k. is_some (points_of c.args.links.now c.args.a k) in
-    let here : c.is_some.result ≡ led c.loop-b.b = c.is_some.ensures ∙ ap is_some (c.points_from-points.ensures.the_points_to_each_section c.loop-b.b c.loop-b-test.true) in
-    let inv = c.loop-b.invariant in
-    let room : c.loop-b.count < length c.loop-b.ends = omega arith in
-    elim c.if-is_some.branch [
-      | then-is_some w ↦ (
-        ap length w.ends-is ∙ simp length-set inv.0,
-        omega (arith, w.count-is),
-        ap₂ take w.count-is w.ends-is
-            ∙ passing_push led c.loop-b.b c.loop-b.ends c.loop-b.count room inv.2 (sym here ∙ w.if-is_some.true),
-      )
-      | else-is_some w ↦ (
-        ap length w.ends-is ∙ inv.0,
-        omega (arith, w.count-is),
-        ap₂ take w.count-is w.ends-is ∙ inv.2
-            ∙ sym (passing_out led c.loop-b.b (sym here ∙ w.if-is_some.false)),
-      )
-    ]
-
-pub returns : goal.returns
-unfolding neighbours_of
-returns c = record {
-  the_ways_from_the_section = (let e : c.loop-b.b ≡ 32 = omega arith in
-      record {
-        points_are = c.points_from-points.ensures.the_points_to_each_section;
-        room = omega arith;
-        ends_are = c.loop-b.invariant.2 ∙ ap (passing (λ k. is_some (points_of c.args.links.now c.args.a k))) e;
-      });
-}
+invariant_of-result c =
+    let led : ℕ → Bool = λ b. is_some (get_or c.points_from-points.result b None) in
+    let all = all_listed led c.loop-place.yielded
+    (YieldsList-end
+    (YieldsList-at c.into_iter-place-iterator.ensures.into_iter_gives
+    (YieldsList-from_enumerate (YieldsList-at c.enumerate-place-items.ensures.source (YieldsList-from_filter _ led (YieldsList-from_range 0 32 32 (cc) refl) c.filter.ensures.closure (λ x b q k. search (rules, tests)))) (cc)))
+    c.loop-place.yielded _ c.loop-place.yielded_by _ c.next.new.self c.in-None.is c.next.ensures.steps) in
+    let inv = c.loop-place.invariant in
+    record { room = omega (arith, all.0); listed = inv.front ∙ all.1 }

@@ -1,11 +1,11 @@
-use Rattle.std.proofs.Common.{◌≡◌, ◌≤◌, length, take, is_some}
-use Rattle.track.specs.Links.{points_of}
-use Rattle.track.specs.Ways.{passing}
+use Rattle.std.proofs.Common.{◌≡◌, ℕ, map, take, length}
 use Rattle.track.proofs.ways.Ways.over.Given as goal
 
--- the sections below b that a link leads to stand in front
-abbrev pub invariant-loop-b : goal.invariant-loop-b
-invariant-loop-b l =
-    (length l.ends ≡ 32)
-    × (l.count ≤ l.b)
-    × (take l.count l.ends ≡ passing (λ k. is_some (points_of l.links l.a k)) l.b)
+-- the sections so far stand in front
+abbrev pub invariant-loop-place : goal.invariant-loop-place
+invariant-loop-place l =
+    record {
+      long : length l.ends ≡ 32;
+      counted : l.count ≡ length l.yielded;
+      front : take l.count l.ends ≡ map (λ (p : ℕ × ℕ). p.1) l.yielded;
+    }
