@@ -44,8 +44,8 @@ loop-row-preserved g c =
       | else-member w ↦ rw (w.below-is, w.draft-is) (row_passed was now i (length c.args.cells.now) c.args.draft.now row c.loop-row.draft c.loop-row.invariant k (same ∙ w.if-member.false))
     ]
 
-pub returns-in_err-ask_for : goal.returns-in_err-ask_for
-returns-in_err-ask_for g c =
+pub returns-in_err-ask_for-clause-each_stands_or_the_course_has_ended : goal.returns-in_err-ask_for-clause-each_stands_or_the_course_has_ended
+returns-in_err-ask_for-clause-each_stands_or_the_course_has_ended g c =
     let q = c.args.asked.now.question.now in
     let was = g.Q.Search.takes c.args.below.now in
     let now = g.Q.Search.takes c.loop-row.below in
@@ -59,15 +59,9 @@ returns-in_err-ask_for g c =
     (c.marks-marks.ensures.the_rows_of_its_part ∙ ap (λ (m : Naming). part (marked q.group) m (m row)) c.alone-parts.ensures.each_row_is_a_part)
     _
     (as_long now i (length c.loop-row.cells) (length c.args.cells.now) _ _ _ (Err _) c.loop-row.auto.cells c.in_err-ask_for.ensures.the_answer_is_right) in
-    record { asking_leaves_the_meaning = e.meaning; each_stands_or_the_course_has_ended = rw (p.1, p.2) e.ends; other_places_are_as_they_were = e.others }
+    rw (p.1, p.2) e.ends
 
-pub returns : goal.returns
-returns g c =
-    let q = c.args.asked.now.question.now in
-    let i = inquired g.R.Rule.conflicts g.S.Scale.measure c.args.asked.now in
-    let e : c.loop-row.row ≡ rows_of q.roster.now = omega (arith, c.members-members.ensures.one_mark_for_each_train) in
-    record {
-      asking_leaves_the_meaning = c.loop-row.invariant.meaning;
-      each_stands_or_the_course_has_ended = rows_all (g.Q.Search.takes c.args.below.now) (g.Q.Search.takes c.loop-row.below) i (length c.args.cells.now) c.args.draft.now c.loop-row.row c.loop-row.draft e c.loop-row.invariant;
-      other_places_are_as_they_were = c.loop-row.invariant.others;
-    }
+pub returns-clause-each_stands_or_the_course_has_ended : goal.returns-clause-each_stands_or_the_course_has_ended
+returns-clause-each_stands_or_the_course_has_ended g c =
+    let e : c.loop-row.row ≡ rows_of c.args.asked.now.question.now.roster.now = omega (arith, c.members-members.ensures.one_mark_for_each_train) in
+    rows_all (g.Q.Search.takes c.args.below.now) (g.Q.Search.takes c.loop-row.below) (inquired g.R.Rule.conflicts g.S.Scale.measure c.args.asked.now) (length c.args.cells.now) c.args.draft.now c.loop-row.row c.loop-row.draft e c.loop-row.invariant

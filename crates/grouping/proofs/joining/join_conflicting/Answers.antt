@@ -17,11 +17,6 @@ ask_for-requires g c =
           c.marks-marks.ensures.the_rows_of_its_part f.row.a_row f.row.of_group refl;
     }
 
-pub loop-conflict-init : goal.loop-conflict-init
-loop-conflict-init g c =
-    parts_first (g.Q.Search.takes c.args.below.now) (inquired g.R.Rule.conflicts g.S.Scale.measure c.args.asked.now) (length c.args.cells.now) c.args.draft.now
-    (naming c.alone-parts.result) c.alone-parts.ensures.each_row_is_a_part c.requires.each_alone_stands
-
 pub loop-conflict-smaller : goal.loop-conflict-smaller
 loop-conflict-smaller g c =
     let q = c.args.asked.now.question.now in
@@ -51,8 +46,8 @@ loop-conflict-preserved g c =
     c.loop-conflict.invariant k.step k.row k.other f e (marked c.marks-marks.result) c.marks-marks.ensures.the_rows_of_its_part _
     (as_long now i (length c.loop-conflict.cells) (length c.args.cells.now) _ _ _ (Ok _) c.loop-conflict.auto.cells c.in_ok-ask_for.ensures.the_answer_is_right)
 
-pub returns-in_err-ask_for : goal.returns-in_err-ask_for
-returns-in_err-ask_for g c =
+pub returns-in_err-ask_for-clause-so_many_groups_stand_or_the_course_has_ended : goal.returns-in_err-ask_for-clause-so_many_groups_stand_or_the_course_has_ended
+returns-in_err-ask_for-clause-so_many_groups_stand_or_the_course_has_ended g c =
     let q = c.args.asked.now.question.now in
     let was = g.Q.Search.takes c.args.below.now in
     let now = g.Q.Search.takes c.loop-conflict.below in
@@ -67,15 +62,9 @@ returns-in_err-ask_for g c =
     part_ended was now next c.ask_for.ensures.asking_leaves_the_meaning i (length c.args.cells.now) c.args.draft.now (naming c.loop-conflict.parts) (naming c.joined-parts.result) c.loop-conflict.draft c.ask_for.new.draft
     c.loop-conflict.invariant k.step k.row k.other f e (marked c.marks-marks.result) c.marks-marks.ensures.the_rows_of_its_part _
     (as_long now i (length c.loop-conflict.cells) (length c.args.cells.now) _ _ _ (Err _) c.loop-conflict.auto.cells c.in_err-ask_for.ensures.the_answer_is_right) in
-    record { asking_leaves_the_meaning = z.meaning; so_many_groups_stand_or_the_course_has_ended = rw (p.1, p.2) z.ends; other_places_are_as_they_were = z.others }
+    rw (p.1, p.2) z.ends
 
-pub returns : goal.returns
-returns g c =
-    let i = inquired g.R.Rule.conflicts g.S.Scale.measure c.args.asked.now in
-    record {
-      asking_leaves_the_meaning = c.loop-conflict.invariant.meaning;
-      so_many_groups_stand_or_the_course_has_ended =
-          parts_end (g.Q.Search.takes c.args.below.now) (g.Q.Search.takes c.loop-conflict.below) i (length c.args.cells.now) c.args.draft.now (naming c.loop-conflict.parts) c.loop-conflict.draft c.count.result
-          c.loop-conflict.invariant c.in_default.ensures.the_first_conflict_between_parts_or_none c.count.ensures.one_for_each_row_that_its_part_goes_by;
-      other_places_are_as_they_were = c.loop-conflict.invariant.others;
-    }
+pub returns-clause-so_many_groups_stand_or_the_course_has_ended : goal.returns-clause-so_many_groups_stand_or_the_course_has_ended
+returns-clause-so_many_groups_stand_or_the_course_has_ended g c =
+    parts_end (g.Q.Search.takes c.args.below.now) (g.Q.Search.takes c.loop-conflict.below) (inquired g.R.Rule.conflicts g.S.Scale.measure c.args.asked.now) (length c.args.cells.now) c.args.draft.now (naming c.loop-conflict.parts) c.loop-conflict.draft c.count.result
+    c.loop-conflict.invariant c.in_default.ensures.the_first_conflict_between_parts_or_none c.count.ensures.one_for_each_row_that_its_part_goes_by

@@ -16,14 +16,10 @@ fewest_between-requires c =
     let goal_open = ap (closed_of q.roster.now) on.goal ∙ posed.goal_open c.args.row on.inside in
     record { start_inside = omega (arith, start_inside, goal_inside, on.start, on.goal); start_open = cc; goal_inside = omega (arith, start_inside, goal_inside, on.start, on.goal) }
 
-pub returns : goal.returns
-returns c =
+pub returns-clause-the_fewest_steps_in_which_the_train_reaches_its_goal : goal.returns-clause-the_fewest_steps_in_which_the_train_reaches_its_goal
+returns-clause-the_fewest_steps_in_which_the_train_reaches_its_goal c = λ k h.
     let q = c.args.question.now in
     let on = c.in_ok-train.ensures.a_row_has_its_start_and_goal in
     let found = c.fewest_between.result in
-    record {
-      the_fewest_steps_in_which_the_train_reaches_its_goal = λ k h.
-          let Q = problem_of k q.layout.now q.roster.now q.steps in
-          subst (λ b. FewestBetween Q (Q.start c.args.row) b found) on.goal (subst (λ a. FewestBetween Q a c.in_ok-train.train.goal found) on.start (c.fewest_between.ensures.the_fewest_steps_from_one_to_the_other k));
-      none_for_a_row_that_is_not_on_the_roster = λ h. absurd (omega (arith, h, on.inside));
-    }
+    let Q = problem_of k q.layout.now q.roster.now q.steps in
+    subst (λ b. FewestBetween Q (Q.start c.args.row) b found) on.goal (subst (λ a. FewestBetween Q a c.in_ok-train.train.goal found) on.start (c.fewest_between.ensures.the_fewest_steps_from_one_to_the_other k))

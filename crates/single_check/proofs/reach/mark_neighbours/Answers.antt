@@ -1,12 +1,9 @@
-use Rattle.std.proofs.Common.{◌≡◌, ◌+◌, ◌<◌, ℕ, true, length, get_or, set, ap, sym, ◌∙◌, subst, arith}
+use Rattle.std.proofs.Common.{◌+◌, ◌<◌, ℕ, true, length, get_or, set, ap, sym, ◌∙◌, subst, arith}
 use Rattle.track.proofs.Laws.{sections_most}
 use Rattle.single_check.specs.Marks.{Widened}
-use Rattle.single_check.proofs.Marking.{Near, near_none, near_skip, near_take, near_all, linked_inside}
+use Rattle.single_check.proofs.Marking.{Near, near_skip, near_take, linked_inside}
 use Rattle.single_check.proofs.reach.mark_neighbours.Goals as goal
 use Rattle.single_check.proofs.reach.mark_neighbours.Goals.{then-not-is_closed, else-not-is_closed}
-
-pub loop-b-init : goal.loop-b-init
-loop-b-init c = near_none c.args.roster.now c.neighbours-b-items.result.now c.args.marks.now c.told-marks
 
 pub bounds-marks-from : goal.bounds-marks-from
 bounds-marks-from c =
@@ -25,9 +22,3 @@ loop-b-preserved c =
       | then-not-is_closed w ↦ subst (Widened c.args.marks.now (Near o xs (i + 1))) (sym (w.marks-is ∙ ap (λ (b : ℕ). set c.loop-b.marks b true) w.from.ensures)) (near_take o xs i c.args.marks.now c.loop-b.marks (sym closed ∙ w.if-not-is_closed.true) room c.loop-b.invariant)
       | else-not-is_closed w ↦ subst (Widened c.args.marks.now (Near o xs (i + 1))) (sym w.marks-is) (near_skip o xs i c.args.marks.now c.loop-b.marks (sym closed ∙ w.if-not-is_closed.false) c.loop-b.invariant)
     ]
-
-pub returns : goal.returns
-returns c =
-    let xs = c.neighbours-b-items.result.now in
-    let e : c.loop-b.b-index ≡ length xs = omega (arith, c.loop-b-test.false, c.loop-b.auto) in
-    record { the_open_neighbours_are_marked_too = near_all c.args.layout.now c.args.roster.now c.args.a xs c.args.marks.now c.loop-b.marks c.neighbours-b-items.ensures.the_linked_sections_in_rising_order (subst (λ n. Widened c.args.marks.now (Near c.args.roster.now xs n) c.loop-b.marks) e c.loop-b.invariant) }

@@ -1,12 +1,8 @@
-use Rattle.std.proofs.Common.{◌+◌, sym, subst, arith}
-use Rattle.track.proofs.Laws.{sections_most}
+use Rattle.std.proofs.Common.{◌+◌, sym, subst}
 use Rattle.single_check.specs.Marks.{Widened}
-use Rattle.single_check.proofs.Marking.{FromBelow, below_none, below_skip, below_take, below_all}
+use Rattle.single_check.proofs.Marking.{FromBelow, below_skip, below_take}
 use Rattle.single_check.proofs.reach.spread.Goals as goal
 use Rattle.single_check.proofs.reach.spread.Goals.{then-marked, else-marked}
-
-pub loop-a-init : goal.loop-a-init
-loop-a-init c = below_none c.args.layout.now c.args.roster.now c.args.reached.now c.told-reached
 
 pub loop-a-preserved : goal.loop-a-preserved
 loop-a-preserved c =
@@ -18,10 +14,3 @@ loop-a-preserved c =
       | then-marked w ↦ subst (Widened m (FromBelow l o m (a + 1))) (sym w.reached-is) (below_take l o m a c.loop-a.reached w.mark_neighbours.new.marks w.if-marked.true c.loop-a.invariant w.mark_neighbours.ensures.the_open_neighbours_are_marked_too)
       | else-marked w ↦ subst (Widened m (FromBelow l o m (a + 1))) (sym w.reached-is) (below_skip l o m a c.loop-a.reached w.if-marked.false c.loop-a.invariant)
     ]
-
-pub returns : goal.returns
-returns c =
-    let l = c.args.layout.now in
-    let o = c.args.roster.now in
-    let m = c.args.reached.now in
-    record { one_step_outward = below_all l o m c.loop-a.reached c.loop-a.a (omega (arith, sections_most l)) c.loop-a.invariant }

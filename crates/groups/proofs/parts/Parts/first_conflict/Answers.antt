@@ -3,7 +3,7 @@ use Rattle.sheets.specs.Inquiry.{problem_of, plan_of}
 use Rattle.sheets.specs.Posing.{marked}
 use Rattle.sheets.proofs.Posed.{sound}
 use Rattle.groups.specs.Model.{naming}
-use Rattle.groups.proofs.Seeking.{hit, others_more, rows_more, steps_more, no_hit_apart, no_hit_clash, none_found, first_found}
+use Rattle.groups.proofs.Seeking.{hit, others_more, no_hit_apart, no_hit_clash, none_found, first_found}
 use Rattle.groups.proofs.parts.Parts.first_conflict.Goals as goal
 use Rattle.groups.proofs.parts.Parts.first_conflict.Goals.{else-apart-via-then-apart+else-clashes, else-apart-via-else-apart}
 
@@ -27,16 +27,6 @@ loop-other-preserved g c =
       | else-apart-via-else-apart w ↦ no_hit_apart Q G name x c.apart.result t r o c.apart.ensures.whether_they_are_of_different_parts w.if-apart.false
     ] in
     (i.0, i.1, others_more Q G name x t r o i.2 e)
-
-pub loop-row-preserved : goal.loop-row-preserved
-loop-row-preserved g c =
-    let i = c.loop-other.invariant in
-    (i.0, rows_more _ _ _ _ c.loop-step.step c.loop-row.row c.loop-other.other (omega (arith, c.count-rows.ensures.as_many_as_there_are_rows)) i.1 i.2)
-
-pub loop-step-preserved : goal.loop-step-preserved
-loop-step-preserved g c =
-    let i = c.loop-row.invariant in
-    steps_more _ _ _ _ c.loop-step.step c.loop-row.row (omega (arith, c.count-rows.ensures.as_many_as_there_are_rows)) i.0 i.1
 
 pub returns-then-clashes : goal.returns-then-clashes
 returns-then-clashes g c = record {
