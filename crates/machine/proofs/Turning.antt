@@ -1,48 +1,28 @@
 -- One frame more, before the finish and after it.
-use Rattle.std.proofs.Common.{◌≡◌, ℕ, [], Ok, Err, Option, Result, sym, refl, ap, ◌∙◌, subst}
-use Rattle.track.specs.Model.{Model, drawn, laid}
-use Rattle.track.specs.Refusals.{refused_by, granted}
+use Rattle.std.proofs.Common.{◌≡◌, ℕ, [], Ok, Err, Result, MatchResult, IsOkAnd, sym, refl, ap, ◌∙◌, subst}
+use Rattle.std.specs.Result.{result_and}
+use Rattle.track.specs.Model.{drawn, laid}
 use Rattle.track.specs.declared.refusal.Refusal.{Refusal}
 use Rattle.roster.specs.Book.{Call}
 use Rattle.sheets.specs.declared.sheet.Sheet.{Sheet}
-use Rattle.planner.specs.Promise.{Reply, accepted, unless_declined}
-use Rattle.planner.specs.History.{Meaning, Stands, Step, event, says_done}
+use Rattle.planner.specs.Promise.{Reply, accepted}
+use Rattle.planner.specs.History.{Meaning, Stands, Step, event, says_done, says_plan}
 use Rattle.planner.specs.declared.planner.Planner.{Planner}
 use Rattle.machine.specs.Asked.{Asked, finish, call}
-use Rattle.machine.specs.Progress.{Progress, drawing, planning, unless, moved}
-use Rattle.machine.specs.Phases.{StandsDrawing, StandsAt, CallKept, FrameKept}
+use Rattle.machine.specs.Progress.{drawing, planning}
+use Rattle.machine.specs.Phases.{CallKept, reply_of, NamesSteps}
 use Rattle.machine.specs.Lines.{TurnOwes}
 use Rattle.machine.specs.declared.desk.Desk.{Desk}
+use Rattle.machine.specs.declared.phase.Phase.{Phase}
 use Rattle.machine.specs.declared.phase.Phase.TheVariants.{Drawing, Planning}
-
-says_refused : {C : Type 0} (r : Result (Unit {0}) Refusal) → ◌≡◌ {A = Reply C} (says_done r) (unless_declined (refused_by r) accepted)
-says_refused (Ok u) = refl
-says_refused (Err e) = refl
-
-granted_unless : (r : Result (Unit {0}) Refusal) (new old : Model) → granted r new old ≡ unless (refused_by r) new old
-granted_unless (Ok u) new old = refl
-granted_unless (Err e) new old = refl
+use Rattle.machine.specs.declared.said.Said.{Said}
+use Rattle.machine.specs.declared.said.Said.TheVariants.{Done, Planned}
 
 module _ {R S Q C : Type 0} (k : Meaning R S Q C) (rule : R) (scale : S) (below : Q) where
-  -- a call to the drawing: d before it and e after it; f says when it is declined, and g what it changes otherwise
-  module _ (d e : Desk R S Q) (asked : Asked) (f : Model → Option ℕ) (g : Model → Model) (r : Result (Unit {0}) Refusal) (reply : Reply C) (s : Sheet)
-      (kept : (m : Model) → (reply ≡ unless_declined (f m) accepted) × (s ≡ s) → FrameKept k rule scale below (drawing m) asked reply s s)
-      (goes : (m : Model) → moved (drawing m) asked ≡ drawing (unless (f m) (g m) m))
-      (says : reply ≡ says_done r)
-      (judged : refused_by r ≡ f (drawn d.drawing))
-      (left : drawn e.drawing ≡ granted r (g (drawn d.drawing)) (drawn d.drawing))
-      (same_rule : e.rule ≡ d.rule) (same_scale : e.scale ≡ d.scale) (same_search : e.below ≡ d.below) where
-    pub draw_turn : TurnOwes k rule scale below (Drawing d) asked reply s s (Drawing e)
-    draw_turn (drawing m) h =
-        let j : refused_by r ≡ f m = judged ∙ ap f h.drawing in
-        let to : drawn e.drawing ≡ unless (f m) (g m) m =
-        left ∙ granted_unless r (g (drawn d.drawing)) (drawn d.drawing) ∙ (λ i. unless (j i) (g (h.drawing i)) (h.drawing i)) in
-        let next : StandsDrawing k rule scale below (unless (f m) (g m) m) e =
-        record { drawing = to; its_rule = same_rule ∙ h.its_rule; its_scale = same_scale ∙ h.its_scale; its_search = same_search ∙ h.its_search } in (
-          kept m (says ∙ says_refused r ∙ ap (λ (o : Option ℕ). unless_declined o accepted) j, refl),
-          subst (λ (p : Progress). StandsAt k rule scale below p (Drawing e)) (sym (goes m)) next,
-        )
-    draw_turn (planning m calls) h = absurd h
+  -- a turn of this phase, by what its frame reads as and what its reply tells
+  pub turn_as : (p o next : Phase R S Q) (a b : Asked) (r t : Reply C) (old new : Sheet) → p ≡ o → a ≡ b → r ≡ t
+      → TurnOwes k rule scale below o b t old new next → TurnOwes k rule scale below p a r old new next
+  turn_as p o next a b r t old new e f g h = rw (e, f, g) h
 
   -- the finish: the planner that is made has no calls yet
   pub finish_turn : (d : Desk R S Q) (p : Planner R S Q) (s : Sheet) → laid p.layout ≡ drawn d.drawing → p.rule ≡ d.rule → p.scale ≡ d.scale
@@ -52,11 +32,36 @@ module _ {R S Q C : Type 0} (k : Meaning R S Q C) (rule : R) (scale : S) (below 
   finish_turn d p s a b c e st (planning m calls) h = absurd h
 
   -- a call to the planner
-  pub call_turn : (p q : Planner R S Q) (c : Call) (reply answer : Reply C) (old new : Sheet) → reply ≡ answer → Step k p (event c answer old new) q
+  pub call_turn : (p q : Planner R S Q) (c : Call) (reply : Reply C) (old new : Sheet) → Step k p (event c reply old new) q
       → TurnOwes k rule scale below (Planning p) (call c) reply old new (Planning q)
-  call_turn p q c reply answer old new e step (drawing m) h = absurd h
-  call_turn p q c reply answer old new e step (planning m calls) h =
-      let told : CallKept k rule scale below m calls c answer old new = record { made = h.made; made_of = h.made_of; kept = step.kept h.made calls h.stands } in (
-        subst (λ (r : Reply C). CallKept k rule scale below m calls c r old new) (sym e) told,
-        record { made = h.made; made_of = h.made_of; stands = step.stands h.made calls h.stands },
-      )
+  call_turn p q c reply old new step (drawing m) h = absurd h
+  call_turn p q c reply old new step (planning m calls) h =
+      let told : CallKept k rule scale below m calls c reply old new = record { made = h.made; made_of = h.made_of; kept = step.kept h.made calls h.stands } in
+      (told, record { made = h.made; made_of = h.made_of; stands = step.stands h.made calls h.stands })
+
+-- the reply of a call that gives nothing
+module _ {C : Type 0} (r : Result (Unit {0}) Refusal) (t : Result (Said C) Refusal) where
+  pub done_said : t ≡ result_and r (Ok Done) → reply_of t ≡ says_done r
+  done_said e = ap reply_of e ∙ go r
+    where
+      go : (x : Result (Unit {0}) Refusal) → reply_of {C = C} (result_and x (Ok Done)) ≡ says_done x
+      go (Ok u) = refl
+      go (Err x) = refl
+
+  pub no_steps : (steps : ℕ) → t ≡ result_and r (Ok Done) → NamesSteps steps t
+  no_steps steps e = subst (NamesSteps steps) (sym e) (go r)
+    where
+      go : (x : Result (Unit {0}) Refusal) → NamesSteps {C = C} steps (result_and x (Ok Done))
+      go (Ok u) = tt
+      go (Err x) = tt
+
+-- the reply of a plan
+module _ {C : Type 0} (r : Result (C × ℕ) Refusal) (t : Result (Said C) Refusal) (steps : ℕ) where
+  pub plan_said : MatchResult r (λ p. IsOkAnd t (λ said. said ≡ Planned p.0 p.1 steps)) (λ e. t ≡ Err e) → (reply_of t ≡ says_plan r) × NamesSteps steps t
+  plan_said h = go r t h
+    where
+      go : (x : Result (C × ℕ) Refusal) (y : Result (Said C) Refusal)
+          → MatchResult x (λ p. IsOkAnd y (λ said. said ≡ Planned p.0 p.1 steps)) (λ e. y ≡ Err e) → (reply_of y ≡ says_plan x) × NamesSteps steps y
+      go (Ok p) (Ok s) e = rw e (refl, refl)
+      go (Ok p) (Err x) e = absurd e
+      go (Err x) y e = rw e (refl, tt)

@@ -1,31 +1,33 @@
 -- What the machine's phases stand for, and what the reply to a frame keeps.
-use Rattle.std.specs.Prelude.{◌≡◌, List}
+use Rattle.std.specs.Prelude.{◌≡◌, ℕ, List, Ok, Err, Result}
 use Rattle.track.specs.Model.{Model, drawn, laid, sections_declined, link_declined, foul_declined}
-use Rattle.track.specs.Refusals.{number_of}
+use Rattle.track.specs.declared.refusal.Refusal.{Refusal}
 use Rattle.track.specs.Layouts.{sections_of}
 use Rattle.roster.specs.Book.{Call, book_of}
 use Rattle.sheets.specs.declared.sheet.Sheet.{Sheet}
 use Rattle.planner.specs.Promise.{Reply, accepted, declined, planned, unless_declined, Kept}
-use Rattle.planner.specs.History.{Meaning, setting_of, Stands}
+use Rattle.planner.specs.History.{Meaning, setting_of, Stands, says}
 use Rattle.planner.specs.declared.planner.Planner.{Planner}
 use Rattle.machine.specs.Asked.{Asked, sections, link, foul, finish, call}
 use Rattle.machine.specs.Progress.{Progress, drawing, planning}
 use Rattle.machine.specs.declared.desk.Desk.{Desk}
 use Rattle.machine.specs.declared.phase.Phase.{Phase}
 use Rattle.machine.specs.declared.phase.Phase.TheVariants.{Drawing, Planning}
-use Rattle.machine.specs.declared.stage.Stage.{Stage}
-use Rattle.machine.specs.declared.stage.Stage.TheVariants.{BeforeFinish, AfterFinish}
 use Rattle.machine.specs.declared.said.Said.{Said}
-use Rattle.machine.specs.declared.said.Said.TheVariants.{Done, Declined, Planned}
+use Rattle.machine.specs.declared.said.Said.TheVariants.{Done, Planned}
 
-abbrev pub stage_of : {R S Q : Type 0} → Phase R S Q → Stage
-stage_of (Drawing d) = BeforeFinish
-stage_of (Planning p) = AfterFinish
+abbrev pub said : {C : Type 0} → Said C → Reply C
+said Done = accepted
+said (Planned cost groups steps) = planned cost groups
 
-abbrev pub reply_of : {C : Type 0} → Said C → Reply C
-reply_of Done = accepted
-reply_of (Declined e) = declined (number_of e)
-reply_of (Planned cost groups steps) = planned cost groups
+abbrev pub reply_of : {C : Type 0} → Result (Said C) Refusal → Reply C
+reply_of r = says said r
+
+-- a reply that tells a plan names these steps
+abbrev pub NamesSteps : {C : Type 0} → (steps : ℕ) → Result (Said C) Refusal → Type 0
+NamesSteps steps (Ok Done) = Unit {0}
+NamesSteps steps (Ok (Planned cost groups h)) = h ≡ steps
+NamesSteps steps (Err e) = Unit {0}
 
 module _ {R S Q C : Type 0} (k : Meaning R S Q C) (rule : R) (scale : S) (below : Q) where
   -- the planner that was made on a layout of what was drawn, with the rule, the scale and the search that the machine was made with

@@ -4,5 +4,3 @@
 pub mod desk;
 pub mod phase;
 pub mod said;
-pub mod stage;
-pub mod turn;

@@ -1,6 +1,8 @@
 use crate::desk::Desk;
 use planner::planner::Planner;
 
+mod turn;
+
 // Before the finish a throat is drawn, after it trains are planned.
 #[derive(Drop)]
 pub enum Phase<R, S, Q> {

@@ -1,10 +1,11 @@
-use track::refusal::Refusal;
-
-// The reply to a line.
+// The reply to a line that is not declined.
 #[derive(Clone, Copy)]
 pub enum Said<C> {
     Done,
-    Declined(Refusal),
     // the cost of the sheet, which is written, the number of groups, and the steps planned
-    Planned(C, usize, usize),
+    Planned {
+        cost: C,
+        groups: usize,
+        steps: usize,
+    },
 }

@@ -10,11 +10,11 @@ use Rattle.roster.specs.declared.train.Train.{Train}
 use Rattle.roster.specs.Trains.{on_layout}
 use Rattle.roster.specs.Model.{held, seen, no_train, rows_of, start_at, goal_at, closed_of}
 use Rattle.sheets.specs.Problem.{Group, count}
-use Rattle.sheets.specs.Posing.{marked, all_on, all_rows, question_declined}
+use Rattle.sheets.specs.Posing.{all_trains, marked, all_on, all_rows, question_declined}
 use Rattle.sheets.specs.Inquiry.{Inquiry, inquiry, problem_of}
 use Rattle.sheets.specs.declared.question.Question.{Question}
 use Rattle.sheets.proofs.Alls.{all_from}
-use Rattle.planner.specs.Promise.{setting, asked, all_trains}
+use Rattle.planner.specs.Promise.{setting, asked}
 
 -- each train of a list on the layout is on it
 on_at : (n : ℕ) (xs : List Train) (d : Train) (r : ℕ) → on_layout n xs ≡ true → r < length xs

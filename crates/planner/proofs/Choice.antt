@@ -16,7 +16,8 @@ use Rattle.sheets.proofs.Sheets.{best_unique}
 use Rattle.sheets.proofs.Costs.{cost_same}
 use Rattle.groups.specs.Course.{beyond, none, found}
 use Rattle.planner.specs.declared.planner.Planner.{Planner}
-use Rattle.planner.specs.Promise.{Setting, Reply, accepted, declined, noted, are_closed, planned, problem, all_trains, GroupingEnds, PlanAnswered, PlanKept}
+use Rattle.sheets.specs.Posing.{all_trains}
+use Rattle.planner.specs.Promise.{Setting, Reply, accepted, declined, noted, are_closed, planned, problem, GroupingEnds, PlanAnswered, PlanKept}
 use Rattle.planner.specs.History.{Meaning, setting_of, History, EveryRunKeepsAllReplies, ThePromiseLeavesNoChoice}
 use Rattle.planner.proofs.Plans.{problem_laws, once}
 use Rattle.planner.proofs.Placed.{met_none, few_trains}

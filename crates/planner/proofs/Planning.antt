@@ -1,7 +1,8 @@
 -- A plan call that the book does not decline: its question can be asked, and the answer of the grouping gives its reply.
-use Rattle.std.proofs.Common.{◌≡◌, ℕ, Bool, false, ◌||◌, eqb, ltb, List, length, Some, None, Option, sym, refl, ap, ◌∙◌, subst, arith}
+use Rattle.std.proofs.Common.{◌≡◌, ℕ, Bool, false, ◌||◌, eqb, ltb, List, length, Some, None, Ok, Err, Option, Result, sym, refl, subst, arith}
 use Rattle.std.proofs.lemmas.Bool.{or_parts, ltb-false, eqb-false}
 use Rattle.track.specs.Layouts.{sections_of}
+use Rattle.track.specs.declared.refusal.Refusal.{Refusal}
 use Rattle.track.specs.declared.layout.Layout.{Layout}
 use Rattle.rules.specs.Conflicts.{RuleLaws}
 use Rattle.scales.specs.Measure.{MeasureLaws}
@@ -10,21 +11,27 @@ use Rattle.roster.specs.Book.{declined as refusal}
 use Rattle.roster.specs.Model.{seen, held, rows_of}
 use Rattle.roster.proofs.Laws.{rows_most}
 use Rattle.sheets.specs.Problem.{ProblemLaws}
-use Rattle.sheets.specs.Posing.{marked, question_declined}
+use Rattle.sheets.specs.Posing.{all_trains, marked, question_declined}
 use Rattle.sheets.specs.Inquiry.{Inquiry, inquiry}
 use Rattle.sheets.specs.Theorems.{Same}
 use Rattle.sheets.specs.declared.question.Question.{Question}
 use Rattle.sheets.specs.declared.sheet.Sheet.{Sheet}
-use Rattle.search.specs.declared.answer.Answer.{Answer}
-use Rattle.search.specs.declared.answer.Answer.TheVariants.{BeyondReach, NoSheet, Found}
+use Rattle.search.specs.Reasons.{reason}
+use Rattle.search.specs.declared.answer.Unplanned.{Unplanned}
+use Rattle.search.specs.declared.answer.Unplanned.TheVariants.{BeyondReach, NoSheet}
 use Rattle.grouping.specs.Ends.{Told}
 use Rattle.planner.specs.declared.planner.Planner.{Planner}
-use Rattle.planner.specs.Promise.{Setting, Reply, declined, problem, asked, all_trains, PlanAnswered}
-use Rattle.planner.specs.History.{Meaning, setting_of, says_answer}
+use Rattle.planner.specs.Promise.{Setting, declined, problem, asked, PlanAnswered}
+use Rattle.planner.specs.History.{Meaning, setting_of, says_plan}
 use Rattle.planner.proofs.Asked.{can_be_asked, asks_the_book}
 use Rattle.planner.proofs.Placed.{met_none}
 use Rattle.planner.proofs.Plans.{problem_laws, answered_found, answered_none, answered_beyond}
 use Rattle.planner.proofs.Runs.{PlanDone, plan_done}
+
+-- what a `?` makes of the answer of the grouping
+abbrev pub carried : {A : Type 0} → Result A Unplanned → Result A Refusal
+carried (Ok a) = Ok a
+carried (Err u) = Err (reason u)
 
 module _ {R S Q C : Type 0} (k : Meaning R S Q C) (p q : Planner R S Q)
     (layout : q.layout ≡ p.layout) (rule : q.rule ≡ p.rule) (scale : q.scale ≡ p.scale) (book : seen q.roster ≡ seen p.roster) (steps cells : ℕ) where
@@ -41,30 +48,25 @@ module _ {R S Q C : Type 0} (k : Meaning R S Q C) (p q : Planner R S Q)
     some_train : eqb (length (held p.roster)) 0 ≡ false
     some_train = (met_none 22 (eqb (length (held p.roster)) 0) _ (met_none 21 (eqb steps 0 || ltb 16 steps) _ (sym passes)).1).0
 
-    module _ (count : ℕ) (counted : count ≡ length (held p.roster)) (marks : List Bool) (all_marked : marked marks ≡ all_trains count) where
-      every_row : marked marks ≡ all_trains (rows_of p.roster)
-      unfolding rows_of
-      every_row = all_marked ∙ ap all_trains counted
-
+    module _ (marks : List Bool) (all_marked : marked marks ≡ all_trains (rows_of p.roster)) where
       never : (o : Option ℕ) (n : ℕ) → Some n ≡ o → o ≡ None → ⊥
       never o n a b = let z : ◌≡◌ {A = ℕ} 0 1 = cc in omega arith
 
       -- the question is not declined
       pub is_asked : (n : ℕ) → Some n ≡ question_declined p.layout p.roster marks steps → ⊥
       unfolding rows_of
-      is_asked n e = never _ n e (can_be_asked p.layout p.roster marks steps p.placed every_row steps_right (eqb-false _ _ some_train))
+      is_asked n e = never _ n e (can_be_asked p.layout p.roster marks steps p.placed all_marked steps_right (eqb-false _ _ some_train))
 
       pub is_answered : (ruled : (r : R) (l : Layout) → RuleLaws (k.conflicts r l)) (measured : (s : S) → MeasureLaws (k.measure s))
           → ((i : Inquiry C) (n : ℕ) → Same (k.takes q.search.below i n) (k.takes p.search.below i n))
           → (question : Question) → question.layout.now ≡ p.layout → question.roster.now ≡ p.roster → question.group ≡ marks → question.steps ≡ steps
-          → (old new : Sheet) (a : Answer (C × ℕ))
+          → (old new : Sheet) (a : Result (C × ℕ) Unplanned)
           → Told (k.takes p.search.below) (inquiry (k.conflicts p.rule) (k.measure p.scale) question) cells old new a
-          → (reply : Reply C) → reply ≡ says_answer a
-          → PlanDone k p q steps cells reply old new
+          → PlanDone k p q steps cells (says_plan (carried a)) old new
       unfolding rows_of
-      is_answered ruled measured same question l o m s old new a told reply says =
-          plan_done k p q steps cells None reply old new layout rule scale book passes
-          (subst (λ (r : Reply C). PlanAnswered w b steps cells old new r) (sym says) (go a (subst (λ i. Told w.takes i cells old new a) e told)))
+      is_answered ruled measured same question l o m s old new a told =
+          plan_done k p q steps cells None (says_plan (carried a)) old new layout rule scale book passes
+          (go a (subst (λ i. Told w.takes i cells old new a) e told))
           same
         where
           w : Setting C
@@ -74,14 +76,14 @@ module _ {R S Q C : Type 0} (k : Meaning R S Q C) (p q : Planner R S Q)
           b = seen p.roster
 
           e : inquiry (k.conflicts p.rule) (k.measure p.scale) question ≡ asked w b steps
-          e = asks_the_book (k.conflicts p.rule) (k.measure p.scale) (k.takes p.search.below) p.layout p.roster marks steps question l o m s every_row
+          e = asks_the_book (k.conflicts p.rule) (k.measure p.scale) (k.takes p.search.below) p.layout p.roster marks steps question l o m s all_marked
 
           laws : ProblemLaws (problem w b steps)
           laws =
               problem_laws p.layout (k.conflicts p.rule p.layout) (k.measure p.scale) (k.takes p.search.below) b steps
               (ruled p.rule p.layout) (rows_most p.roster) (ltb-false 16 steps (or_parts (eqb steps 0) (ltb 16 steps) steps_right).1)
 
-          go : (x : Answer (C × ℕ)) → Told w.takes (asked w b steps) cells old new x → PlanAnswered w b steps cells old new (says_answer x)
-          go BeyondReach h = answered_beyond w (measured p.scale) b steps cells laws old new h
-          go NoSheet h = answered_none w (measured p.scale) b steps cells laws old new h
-          go (Found f) h = answered_found w (measured p.scale) b steps cells laws old new f h
+          go : (x : Result (C × ℕ) Unplanned) → Told w.takes (asked w b steps) cells old new x → PlanAnswered w b steps cells old new (says_plan (carried x))
+          go (Err BeyondReach) h = answered_beyond w (measured p.scale) b steps cells laws old new h
+          go (Err NoSheet) h = answered_none w (measured p.scale) b steps cells laws old new h
+          go (Ok f) h = answered_found w (measured p.scale) b steps cells laws old new f h

@@ -1,5 +1,5 @@
 -- What the end of a course says of the reply to a plan call.
-use Rattle.std.proofs.Common.{◌≡◌, ℕ, ◌≤◌, Bool, true, false, cond, eqb, length, Some, None, Option, unwrap_or, refl, inl, inr, arith}
+use Rattle.std.proofs.Common.{◌≡◌, ℕ, ◌≤◌, Bool, true, false, cond, eqb, length, Some, None, Ok, Err, Option, unwrap_or, refl, inl, inr, arith}
 use Rattle.track.specs.Layouts.{look}
 use Rattle.track.specs.declared.layout.Layout.{Layout}
 use Rattle.track.proofs.Laws.{look_few}
@@ -10,13 +10,14 @@ use Rattle.sheets.specs.Problem.{ProblemLaws}
 use Rattle.sheets.specs.Inquiry.{Inquiry, plan_of}
 use Rattle.sheets.specs.declared.sheet.Sheet.{Sheet}
 use Rattle.sheets.proofs.Sheets.{best_same}
-use Rattle.search.specs.declared.answer.Answer.TheVariants.{BeyondReach, NoSheet, Found}
+use Rattle.search.specs.declared.answer.Unplanned.TheVariants.{BeyondReach, NoSheet}
 use Rattle.groups.specs.Course.{Outcome, beyond, none, found}
 use Rattle.groups.specs.Laws.{Agree, Says}
 use Rattle.groups.proofs.Once.{a_course_has_one_outcome}
 use Rattle.groups.proofs.Right.{a_course_is_right}
 use Rattle.grouping.specs.Ends.{Told, about}
-use Rattle.planner.specs.Promise.{Setting, setting, Reply, declined, planned, problem, asked, all_trains, GroupingEnds, PlanAnswered}
+use Rattle.sheets.specs.Posing.{all_trains}
+use Rattle.planner.specs.Promise.{Setting, setting, Reply, declined, planned, problem, asked, GroupingEnds, PlanAnswered}
 
 few : (l : Layout) (a b : ℕ) (o : Option ℕ) → look l a b ≡ o → unwrap_or o 0 ≤ 7
 few l a b None e = omega arith
@@ -47,7 +48,7 @@ module _ {C : Type 0} (w : Setting C) (L : MeasureLaws w.measure) (b : Book) (st
       a_course_is_right w.measure L (problem w b steps) K (all_trains (length b.trains)) (λ F. w.takes (about (asked w b steps) F) cells) o c
 
   module _ (old new : Sheet) where
-    pub answered_found : (p : C × ℕ) → Told w.takes (asked w b steps) cells old new (Found p) → PlanAnswered w b steps cells old new (planned p.0 p.1)
+    pub answered_found : (p : C × ℕ) → Told w.takes (asked w b steps) cells old new (Ok p) → PlanAnswered w b steps cells old new (planned p.0 p.1)
     answered_found p h =
         record {
           sheet_or_none =
@@ -60,14 +61,14 @@ module _ {C : Type 0} (w : Setting C) (L : MeasureLaws w.measure) (b : Book) (st
           beyond_reach = record { to = λ z. absurd (not_declined p.0 p.1 24 z); back = λ z. absurd (once (found p.1 h.plan) beyond h.ends z) };
         }
 
-    pub answered_none : Told w.takes (asked w b steps) cells old new NoSheet → PlanAnswered w b steps cells old new (declined 25)
+    pub answered_none : Told w.takes (asked w b steps) cells old new (Err NoSheet) → PlanAnswered w b steps cells old new (declined 25)
     answered_none h =
         record {
           sheet_or_none = record { untouched = h.1; reason = inr (refl, h.0, right none h.0) };
           beyond_reach = record { to = λ z. absurd (not_24 z); back = λ z. absurd (once none beyond h.0 z) };
         }
 
-    pub answered_beyond : Told w.takes (asked w b steps) cells old new BeyondReach → PlanAnswered w b steps cells old new (declined 24)
+    pub answered_beyond : Told w.takes (asked w b steps) cells old new (Err BeyondReach) → PlanAnswered w b steps cells old new (declined 24)
     answered_beyond h =
         record {
           sheet_or_none = record { untouched = h.1; reason = inl (refl, h.0) };

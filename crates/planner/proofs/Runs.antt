@@ -20,7 +20,8 @@ use Rattle.groups.specs.Course.{Outcome, beyond, none}
 use Rattle.groups.proofs.Moved.{whole_moved}
 use Rattle.grouping.specs.Ends.{about}
 use Rattle.planner.specs.declared.planner.Planner.{Planner}
-use Rattle.planner.specs.Promise.{Setting, Reply, accepted, declined, noted, are_closed, planned, setting, problem, asked, all_trains, GroupingEnds, SheetOrNone, PlanKept, unless_declined, FromBook, Kept}
+use Rattle.sheets.specs.Posing.{all_trains}
+use Rattle.planner.specs.Promise.{Setting, Reply, accepted, declined, noted, are_closed, planned, setting, problem, asked, GroupingEnds, SheetOrNone, PlanKept, unless_declined, FromBook, Kept}
 use Rattle.planner.specs.History.{Meaning, setting_of, Stands, Event, Step, Run, calls_of, AllKept, EveryRunKeepsAllReplies, says_done, event, History}
 use Rattle.planner.proofs.Closed.{count_all, lowest_all}
 use Rattle.planner.proofs.Placed.{on_after}
@@ -33,7 +34,7 @@ pub done_left : {A : Type 0} (r : Result A Refusal) (new old : Book) → granted
 done_left (Ok u) new old = refl
 done_left (Err e) new old = refl
 
-done_says : {C : Type 0} (r : Result (Unit {0}) Refusal) → ◌≡◌ {A = Reply C} (says_done r) (unless_declined (refused_by r) accepted)
+pub done_says : {C : Type 0} (r : Result (Unit {0}) Refusal) → ◌≡◌ {A = Reply C} (says_done r) (unless_declined (refused_by r) accepted)
 done_says (Ok u) = refl
 done_says (Err e) = refl
 
@@ -99,59 +100,38 @@ module _ {R S Q C : Type 0} (k : Meaning R S Q C) where
   pub made_stands : (made : Planner R S Q) → seen made.roster ≡ empty → Stands k made [] made
   made_stands made e = record { layout = refl; rule = refl; scale = refl; takes = λ i n. record { to = λ h. h; back = λ h. h }; book = e }
 
-  -- a call that the book answers
-  module _ (p : Planner R S Q) (c : Call) (granted reply : Reply C) (o : Option ℕ) (judged : o ≡ refusal (sections_of p.layout) (seen p.roster) c) where
-    pub from_book : reply ≡ unless_declined o granted → (made : Planner R S Q) (calls : List Call) → Stands k made calls p → (s : Sheet)
-        → FromBook (setting_of k made) (book_of (sections_of made.layout) calls) c granted reply s s
-    from_book says made calls st s =
-        let e : refusal (sections_of p.layout) (seen p.roster) c ≡ refusal (sections_of made.layout) (book_of (sections_of made.layout) calls) c
-        = λ i. refusal (sections_of (st.layout i)) (st.book i) c in
-        (says ∙ ap (λ (z : Option ℕ). unless_declined z granted) (judged ∙ e), refl)
+  -- a call that the book answers with r
+  module _ (p : Planner R S Q) (c : Call) {A : Type 0} (r : Result A Refusal) (judged : refused_by r ≡ refusal (sections_of p.layout) (seen p.roster) c)
+      (ro : Roster) (left : seen ro ≡ granted r (changed (seen p.roster) c) (seen p.roster)) where
+    book_after : seen ro ≡ after (sections_of p.layout) (seen p.roster) c
+    book_after = left ∙ done_left r _ _ ∙ ap (λ (z : Option ℕ). unless z (changed (seen p.roster) c) (seen p.roster)) judged
 
-    pub book_after : (ro : Roster) → seen ro ≡ unless o (changed (seen p.roster) c) (seen p.roster) → seen ro ≡ after (sections_of p.layout) (seen p.roster) c
-    book_after ro left = left ∙ ap (λ (z : Option ℕ). unless z (changed (seen p.roster) c) (seen p.roster)) judged
-
-    pub still_placed : (ro : Roster) → seen ro ≡ unless o (changed (seen p.roster) c) (seen p.roster) → on_layout (sections_of p.layout) (held ro) ≡ true
-    still_placed ro left =
-        ap (λ (b : Book). on_layout (sections_of p.layout) b.trains) (book_after ro left)
+    pub still_placed : on_layout (sections_of p.layout) (held ro) ≡ true
+    still_placed =
+        ap (λ (b : Book). on_layout (sections_of p.layout) b.trains) book_after
         ∙ on_after (sections_of p.layout) (seen p.roster) c p.placed
 
-    pub book_left : (q : Planner R S Q) → q.layout ≡ p.layout → q.rule ≡ p.rule → q.scale ≡ p.scale → q.search ≡ p.search
-        → seen q.roster ≡ unless o (changed (seen p.roster) c) (seen p.roster)
-        → (made : Planner R S Q) (calls : List Call) → Stands k made calls p → Stands k made (calls ++ (c ∷ [])) q
-    book_left q a b d f left made calls st =
+    -- and that is told so if it is granted
+    pub called : (given reply : Reply C) → ((w : Setting C) (b : Book) (s : Sheet) → FromBook w b c given reply s s → Kept w b c reply s s)
+        → reply ≡ unless_declined (refused_by r) given
+        → (q : Planner R S Q) → q.layout ≡ p.layout → q.rule ≡ p.rule → q.scale ≡ p.scale → q.search ≡ p.search → q.roster ≡ ro
+        → (s : Sheet) → Step k p (event c reply s s) q
+    called given reply keeps says q layout rule scale search roster s =
         let m : Moved p q c =
         record {
-          layout = a;
-          rule = b;
-          scale = d;
-          takes = λ i n. subst (λ z. Same (k.takes z.below i n) (k.takes p.search.below i n)) (sym f) (record { to = λ h. h; back = λ h. h });
-          book = book_after q.roster left;
+          layout = layout;
+          rule = rule;
+          scale = scale;
+          takes = λ i n. subst (λ z. Same (k.takes z.below i n) (k.takes p.search.below i n)) (sym search) (record { to = λ h. h; back = λ h. h });
+          book = ap seen roster ∙ book_after;
         } in
-        stands_next p q c m made calls st
-
-  -- what a call owes that the book answers, and that gives nothing
-  pub record Done (p q : Planner R S Q) (c : Call) (r : Result (Unit {0}) Refusal) : Type 0 where
-    pub judged : refused_by r ≡ refusal (sections_of p.layout) (seen p.roster) c
-    pub left : seen q.roster ≡ granted r (changed (seen p.roster) c) (seen p.roster)
-    pub step : (s : Sheet) → Step k p (event c (says_done r) s s) q
-
-  pub done : (p q : Planner R S Q) (c : Call)
-      → ((w : Setting C) (b : Book) (reply : Reply C) (s : Sheet) → FromBook w b c accepted reply s s → Kept w b c reply s s)
-      → q.layout ≡ p.layout → q.rule ≡ p.rule → q.scale ≡ p.scale → q.search ≡ p.search
-      → (r : Result (Unit {0}) Refusal)
-      → refused_by r ≡ refusal (sections_of p.layout) (seen p.roster) c
-      → seen q.roster ≡ granted r (changed (seen p.roster) c) (seen p.roster)
-      → Done p q c r
-  done p q c keeps layout rule scale search r judged left =
-      record {
-        judged = judged;
-        left = left;
-        step = λ s. record {
-          kept = λ made calls st. keeps (setting_of k made) (book_of (sections_of made.layout) calls) (says_done r) s (from_book p c accepted (says_done r) (refused_by r) judged (done_says r) made calls st s);
-          stands = book_left p c accepted (says_done r) (refused_by r) judged q layout rule scale search (left ∙ done_left r _ _);
-        };
-      }
+        record {
+          kept = λ made calls st.
+              let e : refusal (sections_of p.layout) (seen p.roster) c ≡ refusal (sections_of made.layout) (book_of (sections_of made.layout) calls) c
+              = λ i. refusal (sections_of (st.layout i)) (st.book i) c in
+              keeps (setting_of k made) (book_of (sections_of made.layout) calls) s (says ∙ ap (λ (z : Option ℕ). unless_declined z given) (judged ∙ e), refl);
+          stands = stands_next p q c m;
+        }
 
   -- a plan call
   pub plan_kept : (p : Planner R S Q) (steps cells : ℕ) (o : Option ℕ) (reply : Reply C) (old new : Sheet)
@@ -228,27 +208,13 @@ module _ {R S Q C : Type 0} (k : Meaning R S Q C) where
   calls_more [] e = refl
   calls_more (d ∷ es) e = ap (λ (cs : List Call). d.call ∷ cs) (calls_more es e)
 
-  history_next : (p q : Planner R S Q) (e : Event C) → Step k p e q → (made : Planner R S Q) (es : List (Event C)) → History k made es p
+  pub history_next : (p q : Planner R S Q) (e : Event C) → Step k p e q → (made : Planner R S Q) (es : List (Event C)) → History k made es p
       → History k made (es ++ (e ∷ [])) q
   history_next p q e s made es h =
       record {
         stands = subst (λ (cs : List Call). Stands k made cs q) (sym (calls_more es e)) (s.stands made (calls_of es) h.stands);
         kept = history_more (setting_of k made) [] es e h.kept (s.kept made (calls_of es) h.stands);
       }
-
-  -- what `answer` owes, from what the call owes that it makes
-  step_as : (p q : Planner R S Q) (c d : Call) (r t : Reply C) (old new : Sheet) → c ≡ d → r ≡ t → Step k p (event c r old new) q → Step k p (event d t old new) q
-  step_as p q c d r t old new e f h =
-      let W : Call × Reply C → Type 0 = λ z. Step k p (event z.0 z.1 old new) q in
-      let way : ◌≡◌ {A = Call × Reply C} (c, r) (d, t) = λ i. (e i, f i) in
-      subst W way h
-
-  pub record Answered (p q : Planner R S Q) (e : Event C) : Type 0 where
-    pub step : Step k p e q
-    pub history : (made : Planner R S Q) (es : List (Event C)) → History k made es p → History k made (es ++ (e ∷ [])) q
-
-  pub answered : (p q : Planner R S Q) (c d : Call) (r t : Reply C) (old new : Sheet) → c ≡ d → r ≡ t → Step k p (event c r old new) q → Answered p q (event d t old new)
-  answered p q c d r t old new e f h = let s = step_as p q c d r t old new e f h in record { step = s; history = history_next p q (event d t old new) s }
 
   -- a run keeps all its replies
   run_kept : {p last : Planner R S Q} {es : List (Event C)} (made : Planner R S Q) (calls : List Call) → Stands k made calls p → Run k p es last

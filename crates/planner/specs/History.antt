@@ -11,14 +11,12 @@ use Rattle.roster.specs.Model.{seen}
 use Rattle.sheets.specs.Inquiry.{Inquiry, plan_of}
 use Rattle.sheets.specs.Theorems.{Same}
 use Rattle.sheets.specs.declared.sheet.Sheet.{Sheet}
-use Rattle.search.specs.declared.answer.Answer.{Answer}
-use Rattle.search.specs.declared.answer.Answer.TheVariants.{BeyondReach, NoSheet, Found}
 use Rattle.planner.specs.Promise.{Setting, Reply, accepted, declined, noted, are_closed, planned, Kept, setting}
 use Rattle.planner.specs.declared.note.Note.{Note}
 use Rattle.planner.specs.declared.order.Order.{Order}
 use Rattle.planner.specs.declared.order.Order.TheVariants.{Enter, Withdraw, Possess, GiveUp, AskClosed, Plan}
 use Rattle.planner.specs.declared.order.Told.{Told}
-use Rattle.planner.specs.declared.order.Told.TheVariants.{Accepted, Declined, Noted, AreClosed, Planned}
+use Rattle.planner.specs.declared.order.Told.TheVariants.{Accepted, Noted, AreClosed, Planned}
 use Rattle.planner.specs.declared.planner.Planner.{Planner}
 
 -- what the rule, the scale and the search of a planner mean
@@ -39,31 +37,29 @@ call_of (GiveUp note) cells = give_up note.section
 call_of AskClosed cells = ask
 call_of (Plan steps) cells = plan steps cells
 
-abbrev pub reply_of : {C : Type 0} → Told C → Reply C
-reply_of Accepted = accepted
-reply_of (Declined e) = declined (number_of e)
-reply_of (Noted note) = noted note.section
-reply_of (AreClosed count low) = are_closed count low
-reply_of (Planned cost groups) = planned cost groups
+-- the reply of a call that gives something, told in this way, or is declined
+abbrev pub says : {A C : Type 0} → (A → Reply C) → Result A Refusal → Reply C
+says told (Ok a) = told a
+says told (Err e) = declined (number_of e)
+
+abbrev pub told : {C : Type 0} → Told C → Reply C
+told Accepted = accepted
+told (Noted note) = noted note.section
+told (AreClosed count low) = are_closed count low
+told (Planned cost groups) = planned cost groups
+
+abbrev pub reply_of : {C : Type 0} → Result (Told C) Refusal → Reply C
+reply_of r = says told r
 
 -- the reply of a call that gives nothing, of one that gives a note, and of a plan call
 abbrev pub says_done : {C : Type 0} → Result (Unit {0}) Refusal → Reply C
-says_done (Ok u) = accepted
-says_done (Err e) = declined (number_of e)
+says_done r = says (λ u. accepted) r
 
 abbrev pub says_note : {C : Type 0} → Result Note Refusal → Reply C
-says_note (Ok note) = noted note.section
-says_note (Err e) = declined (number_of e)
+says_note r = says (λ note. noted note.section) r
 
 abbrev pub says_plan : {C : Type 0} → Result (C × ℕ) Refusal → Reply C
-says_plan (Ok p) = planned p.0 p.1
-says_plan (Err e) = declined (number_of e)
-
--- the reply to a plan call that the grouping answers so
-abbrev pub says_answer : {C : Type 0} → Answer (C × ℕ) → Reply C
-says_answer BeyondReach = declined 24
-says_answer NoSheet = declined 25
-says_answer (Found p) = planned p.0 p.1
+says_plan r = says (λ p. planned p.0 p.1) r
 
 -- a call with its reply, and the sheet before and after it
 pub record Event (C : Type 0) : Type 0 where

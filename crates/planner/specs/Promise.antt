@@ -1,5 +1,5 @@
 -- What each reply of a planner owes, given the book of the calls before it.
-use Rattle.std.specs.Prelude.{◌≡◌, ℕ, ◌⊎◌, length, Some, None, Option, nat_lt, slice_index_or}
+use Rattle.std.specs.Prelude.{◌≡◌, ℕ, ◌⊎◌, length, Some, None, Option, slice_index_or}
 use Rattle.track.specs.Layouts.{sections_of, look}
 use Rattle.track.specs.declared.layout.Layout.{Layout}
 use Rattle.rules.specs.Conflicts.{Conflicts}
@@ -7,7 +7,8 @@ use Rattle.scales.specs.Measure.{Measure}
 use Rattle.roster.specs.Book.{Call, enter, withdraw, possess, give_up, ask, plan, Book, how_many, lowest}
 use Rattle.roster.specs.Book.{declined as refusal}
 use Rattle.roster.specs.Model.{no_train}
-use Rattle.sheets.specs.Problem.{Problem, Group}
+use Rattle.sheets.specs.Problem.{Problem}
+use Rattle.sheets.specs.Posing.{all_trains}
 use Rattle.sheets.specs.Plan.{Plan, Best, Without, cost}
 use Rattle.sheets.specs.Inquiry.{Inquiry, plan_of}
 use Rattle.sheets.specs.Theorems.{Same}
@@ -38,10 +39,6 @@ pub data Reply (C : Type 0) : Type 0 where
   noted : (section : ℕ) → Reply C
   are_closed : (count : ℕ) (lowest : Option ℕ) → Reply C
   planned : (cost : C) (groups : ℕ) → Reply C
-
--- the group of a plan: all n trains of the book
-abbrev pub all_trains : (n : ℕ) → Group
-all_trains n r = nat_lt r n
 
 -- what is to be planned: the trains of the book, in so many steps, with its closed sections left out
 abbrev pub problem : {C : Type 0} → Setting C → Book → (steps : ℕ) → Problem

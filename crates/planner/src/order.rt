@@ -1,6 +1,5 @@
 use crate::note::Note;
 use roster::train::Train;
-use track::refusal::Refusal;
 
 // A call to a planner.
 pub enum Order {
@@ -16,10 +15,9 @@ pub enum Order {
     Plan(usize),
 }
 
-// What a planner replies.
+// What a planner replies to a call that it does not decline.
 pub enum Told<C> {
     Accepted,
-    Declined(Refusal),
     // the section is closed; the note has to be given up
     Noted(Note),
     // how many sections are closed, and the lowest of them

@@ -10,6 +10,7 @@ ghost use Rattle.planner.specs.History.{meaning, Step, event, says_done, says_no
 
 use crate::note::Note;
 use crate::planner::Planner;
+use roster::train::Train;
 use rules::rule::Rule;
 use scales::scale::Scale;
 use search::search::Search;
@@ -17,12 +18,12 @@ use track::refusal::Refusal;
 
 impl<R: Rule, S: Scale, Q: Search<S>> Planner<R, S, Q> {
     // Enters a train.
-    pub fn enter(&mut self, number: u16, start: u8, goal: u8) -> Result<(), Refusal>
-        ensures the_first_condition_met_declines { refused_by result ≡ declined (sections_of self.old.layout) (seen self.old.roster) (enter number start goal) }
-        ensures a_refusal_changes_nothing { seen self.new.roster ≡ granted result (changed (seen self.old.roster) (enter number start goal)) (seen self.old.roster) }
-        ensures the_reply_is_kept_after_any_calls { (s : Sheet) → Step (meaning R.Rule.conflicts S.Scale.measure Q.Search.takes) self.old (event (enter number start goal) (says_done result) s s) self.new }
+    pub fn enter(&mut self, train: Train) -> Result<(), Refusal>
+        ensures the_first_condition_met_declines { refused_by result ≡ declined (sections_of self.old.layout) (seen self.old.roster) (enter train.number train.start train.goal) }
+        ensures a_refusal_changes_nothing { seen self.new.roster ≡ granted result (changed (seen self.old.roster) (enter train.number train.start train.goal)) (seen self.old.roster) }
+        ensures the_reply_is_kept_after_any_calls { (s : Sheet) → Step (meaning R.Rule.conflicts S.Scale.measure Q.Search.takes) self.old (event (enter train.number train.start train.goal) (says_done result) s s) self.new }
     {
-        self.roster.enter(&self.layout, number, start, goal)
+        self.roster.enter(&self.layout, train)
     }
 
     // Takes the train with this number off the roster.
@@ -41,10 +42,8 @@ impl<R: Rule, S: Scale, Q: Search<S>> Planner<R, S, Q> {
         ensures the_note_names_the_section { elim result [ Ok note ↦ note.section ≡ section | Err e ↦ Unit {0} ] }
         ensures the_reply_is_kept_after_any_calls { (s : Sheet) → Step (meaning R.Rule.conflicts S.Scale.measure Q.Search.takes) self.old (event (possess section) (says_note result) s s) self.new }
     {
-        match self.roster.close(&self.layout, section) {
-            Ok(()) => Ok(Note { section }),
-            Err(e) => Err(e),
-        }
+        self.roster.close(&self.layout, section)?;
+        Ok(Note { section })
     }
 
     // Opens the section that the note names. The note is used up even when the call is declined.
@@ -54,8 +53,7 @@ impl<R: Rule, S: Scale, Q: Search<S>> Planner<R, S, Q> {
         ensures the_reply_is_kept_after_any_calls { (s : Sheet) → Step (meaning R.Rule.conflicts S.Scale.measure Q.Search.takes) self.old (event (give_up note.section) (says_done result) s s) self.new }
     {
         let Note { section } = note;
-        self.roster.open_again(&self.layout, section)?;
-        Ok(())
+        self.roster.open_again(&self.layout, section)
     }
 
     // How many sections are closed, and which is the lowest.

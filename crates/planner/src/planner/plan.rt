@@ -1,44 +1,21 @@
-ghost use Rattle.std.specs.Prelude.{◌≡◌, ◌≤◌, length};
+ghost use Rattle.std.specs.Prelude.{◌≡◌, length};
 ghost use Rattle.track.specs.Layouts.{sections_of};
 ghost use Rattle.track.specs.Refusals.{refused_by};
 ghost use Rattle.roster.specs.Book.{declined};
 ghost use Rattle.roster.specs.Book.Call.{plan};
 ghost use Rattle.roster.specs.Model.{seen};
-ghost use Rattle.sheets.specs.Posing.{marked};
-ghost use Rattle.planner.specs.Promise.{all_trains, PlanKept};
-ghost use Rattle.planner.specs.History.{meaning, setting_of, Step, event, says_plan, says_answer};
+ghost use Rattle.planner.specs.Promise.{PlanKept};
+ghost use Rattle.planner.specs.History.{meaning, setting_of, Step, event, says_plan};
 
 use crate::planner::Planner;
 use rules::rule::Rule;
 use scales::scale::Scale;
-use search::answer::Answer;
 use search::search::Search;
+use sheets::asked::Asked;
+use sheets::everyone::everyone;
 use sheets::pose::ask;
 use sheets::sheet::Sheet;
 use track::refusal::Refusal;
-
-// Marks on the first `count` rows.
-fn marks_on(count: usize) -> [bool; 8]
-    requires { count ≤ 8 }
-    ensures the_group_of_all_trains { marked result ≡ all_trains count }
-{
-    let mut marks = [false; 8];
-    for row in 0..8 {
-        marks[row] = row < count;
-    }
-    marks
-}
-
-// The reply to a plan call, by the answer of the grouping.
-fn reply_to<C>(answer: Answer<(C, usize)>) -> Result<(C, usize), Refusal>
-    ensures the_answer_as_a_reply { says_plan result ≡ says_answer answer }
-{
-    match answer {
-        Answer::BeyondReach => Err(Refusal::BeyondReach),
-        Answer::NoSheet => Err(Refusal::NoLawfulSheet),
-        Answer::Found(cost_and_groups) => Ok(cost_and_groups),
-    }
-}
 
 impl<R, S, Q> Planner<R, S, Q> {
     // Whether a plan of so many steps may be made with so many cells.
@@ -51,7 +28,7 @@ impl<R, S, Q> Planner<R, S, Q> {
         if self.roster.count() == 0 {
             return Err(Refusal::RosterEmpty);
         }
-        if cells < self.layout.sections() as usize * (steps + 1) {
+        if cells < usize::from(self.layout.sections()) * (steps + 1) {
             return Err(Refusal::TooFewCells);
         }
         Ok(())
@@ -71,12 +48,14 @@ impl<R: Rule, S: Scale, Q: Search<S>> Planner<R, S, Q> {
         ensures the_reply_is_kept_after_any_calls { Step (meaning R.Rule.conflicts S.Scale.measure Q.Search.takes) self.old (event (plan steps (length cells.old)) (says_plan result) sheet.old sheet.new) self.new }
     {
         self.check_plan(steps, cells.len())?;
-        let marks = marks_on(self.roster.count());
+        let group = everyone(&self.roster);
         // never declined: the roster has a train, and all its trains are on the layout
-        let question = ask(&self.layout, &self.roster, marks, steps)?;
-        let answer = self
-            .search
-            .plan(&self.rule, &self.scale, &question, cells, sheet);
-        reply_to(answer)
+        let question = ask(&self.layout, &self.roster, group, steps)?;
+        let asked = Asked {
+            rule: &self.rule,
+            scale: &self.scale,
+            question: &question,
+        };
+        Ok(self.search.plan(&asked, cells, sheet)?)
     }
 }

@@ -1,25 +1,14 @@
-use Rattle.std.proofs.Common.{Ok, refl}
-use Rattle.std.proofs.lemmas.Result.{err_from_is_err_and}
+use Rattle.std.proofs.Common.{refl}
 use Rattle.roster.specs.Book.{give_up}
-use Rattle.planner.specs.History.{meaning}
-use Rattle.planner.proofs.Runs.{done}
+use Rattle.planner.specs.Promise.{accepted}
+use Rattle.planner.specs.History.{meaning, says_done}
+use Rattle.planner.proofs.Runs.{called, done_says}
 use Rattle.planner.proofs.planner.Planner.give_up.Goals as goal
 
-pub returns-in_err-open_again : goal.returns-in_err-open_again
-returns-in_err-open_again g c =
+pub returns-clause-the_reply_is_kept_after_any_calls : goal.returns-clause-the_reply_is_kept_after_any_calls
+returns-clause-the_reply_is_kept_after_any_calls g c =
     let k = meaning g.R.Rule.conflicts g.S.Scale.measure g.Q.Search.takes in
-    let e = c.in_err-open_again.ensures in
-    let p = err_from_is_err_and c.from_residual.result c.from_residual.ensures.1 in
-    let d =
-    done k c.args.self.now _ (give_up c.args.note.section) (λ w b reply s h. h) refl refl refl refl
-    c.from_residual.result (rw (p.1, p.2) e.the_first_condition_met_declines) (rw p.1 e.a_refusal_changes_nothing) in
-    record { the_first_condition_met_declines = d.judged; a_refusal_changes_nothing = d.left; the_reply_is_kept_after_any_calls = d.step }
-
-pub returns : goal.returns
-returns g c =
-    let k = meaning g.R.Rule.conflicts g.S.Scale.measure g.Q.Search.takes in
-    let e = c.in_ok-open_again.ensures in
-    let d =
-    done k c.args.self.now _ (give_up c.args.note.section) (λ w b reply s h. h) refl refl refl refl
-    (Ok tt) e.the_first_condition_met_declines e.a_refusal_changes_nothing in
-    record { the_first_condition_met_declines = d.judged; a_refusal_changes_nothing = d.left; the_reply_is_kept_after_any_calls = d.step }
+    let p = c.args.self.now in
+    let e = c.open_again.ensures in
+    called k p (give_up c.args.note.section) c.open_again.result e.the_first_condition_met_declines c.open_again.new.self e.a_refusal_changes_nothing
+    accepted (says_done c.open_again.result) (λ w b s h. h) (done_says c.open_again.result) _ refl refl refl refl refl

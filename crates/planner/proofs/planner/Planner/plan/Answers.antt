@@ -1,4 +1,4 @@
-use Rattle.std.proofs.Common.{length, refl}
+use Rattle.std.proofs.Common.{Ok, Err, length, refl}
 use Rattle.std.proofs.lemmas.Result.{err_from_is_err_and}
 use Rattle.track.specs.Refusals.{number_of}
 use Rattle.planner.specs.History.{meaning}
@@ -21,8 +21,22 @@ returns-in_err-question g c =
     absurd
     (is_asked k p p refl refl refl refl c.args.steps (length c.args.cells.now)
     c.in_ok-check_plan.ensures.the_first_condition_met_declines
-    c.count.result c.count.ensures.as_many_as_the_book_has c.marks_on-marks.result c.marks_on-marks.ensures.the_group_of_all_trains
+    c.everyone-group.result c.everyone-group.ensures.all_trains_are_marked
     (number_of c.in_err-question.field-0.0) c.in_err-question.ensures.the_first_condition_met_declines)
+
+pub returns-in_err-plan : goal.returns-in_err-plan
+returns-in_err-plan g c =
+    let k = meaning g.R.Rule.conflicts g.S.Scale.measure g.Q.Search.takes in
+    let asks = c.in_ok-question.ensures.the_question_is_as_asked in
+    let r = err_from_is_err_and c.from_residual-in_err-plan.result c.from_residual-in_err-plan.ensures.1 in
+    let d =
+    is_answered k c.args.self.now _ refl refl refl refl c.args.steps (length c.args.cells.now)
+    c.in_ok-check_plan.ensures.the_first_condition_met_declines
+    c.everyone-group.result c.everyone-group.ensures.all_trains_are_marked
+    g.met.R.Rule.lawful g.met.S.Scale.lawful c.in_err-plan.ensures.asking_leaves_the_meaning
+    c.in_ok-question.question asks.0 asks.1 asks.2 asks.3
+    c.args.sheet.now c.plan.new.sheet (Err c.in_err-plan.field-0.0) c.in_err-plan.ensures.the_answer_is_how_the_course_ends in
+    record { a_refusal_of_the_book_or_the_answer_of_the_grouping = rw (r.1, r.2) d.answer; planning_leaves_the_book = refl; the_reply_is_kept_after_any_calls = rw (r.1, r.2) d.step }
 
 pub returns : goal.returns
 returns g c =
@@ -31,9 +45,8 @@ returns g c =
     let d =
     is_answered k c.args.self.now _ refl refl refl refl c.args.steps (length c.args.cells.now)
     c.in_ok-check_plan.ensures.the_first_condition_met_declines
-    c.count.result c.count.ensures.as_many_as_the_book_has c.marks_on-marks.result c.marks_on-marks.ensures.the_group_of_all_trains
-    g.met.R.Rule.lawful g.met.S.Scale.lawful c.plan-answer.ensures.asking_leaves_the_meaning
+    c.everyone-group.result c.everyone-group.ensures.all_trains_are_marked
+    g.met.R.Rule.lawful g.met.S.Scale.lawful c.in_ok-plan.ensures.asking_leaves_the_meaning
     c.in_ok-question.question asks.0 asks.1 asks.2 asks.3
-    c.args.sheet.now c.plan-answer.new.sheet c.plan-answer.result c.plan-answer.ensures.the_answer_is_how_the_course_ends
-    _ c.reply_to.ensures.the_answer_as_a_reply in
+    c.args.sheet.now c.plan.new.sheet (Ok c.in_ok-plan.field-0) c.in_ok-plan.ensures.the_answer_is_how_the_course_ends in
     record { a_refusal_of_the_book_or_the_answer_of_the_grouping = d.answer; planning_leaves_the_book = refl; the_reply_is_kept_after_any_calls = d.step }

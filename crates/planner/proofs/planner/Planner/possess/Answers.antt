@@ -1,41 +1,25 @@
-use Rattle.std.proofs.Common.{Some, None, refl}
-use Rattle.track.specs.Refusals.{number_of}
+use Rattle.std.proofs.Common.{Ok, refl}
+use Rattle.std.proofs.lemmas.Result.{err_from_is_err_and}
 use Rattle.roster.specs.Book.{possess}
-use Rattle.planner.specs.Promise.{noted, declined}
-use Rattle.planner.specs.History.{meaning}
-use Rattle.planner.proofs.Runs.{from_book, book_left}
+use Rattle.planner.specs.Promise.{noted}
+use Rattle.planner.specs.History.{meaning, says_note}
+use Rattle.planner.proofs.Runs.{called}
 use Rattle.planner.proofs.planner.Planner.possess.Goals as goal
 
-pub returns-in-Ok : goal.returns-in-Ok
-returns-in-Ok g c =
+pub returns-in_err-close-clause-the_reply_is_kept_after_any_calls : goal.returns-in_err-close-clause-the_reply_is_kept_after_any_calls
+returns-in_err-close-clause-the_reply_is_kept_after_any_calls g c =
     let k = meaning g.R.Rule.conflicts g.S.Scale.measure g.Q.Search.takes in
-    let p = c.args.self.now in
-    let s = c.args.section in
-    let e = c.in-Ok.ensures in
-    record {
-      the_first_condition_met_declines = e.the_first_condition_met_declines;
-      a_refusal_changes_nothing = e.a_refusal_changes_nothing;
-      the_note_names_the_section = refl;
-      the_reply_is_kept_after_any_calls = λ sheet. record {
-        kept = λ made calls st. from_book k p (possess s) (noted s) (noted s) None e.the_first_condition_met_declines refl made calls st sheet;
-        stands = book_left k p (possess s) (noted s) (noted s) None e.the_first_condition_met_declines _ refl refl refl refl e.a_refusal_changes_nothing;
-      };
-    }
+    let n = c.args.section in
+    let r = c.from_residual.result in
+    let e = c.in_err-close.ensures in
+    let x = err_from_is_err_and r c.from_residual.ensures.1 in
+    called k c.args.self.now (possess n) r (rw (x.1, x.2) e.the_first_condition_met_declines) c.close.new.self (rw x.1 e.a_refusal_changes_nothing)
+    (noted n) (says_note r) (λ w b s h. h) (rw x.1 refl) _ refl refl refl refl refl
 
-pub returns-in-Err : goal.returns-in-Err
-returns-in-Err g c =
+pub returns-clause-the_reply_is_kept_after_any_calls : goal.returns-clause-the_reply_is_kept_after_any_calls
+returns-clause-the_reply_is_kept_after_any_calls g c =
     let k = meaning g.R.Rule.conflicts g.S.Scale.measure g.Q.Search.takes in
-    let p = c.args.self.now in
-    let s = c.args.section in
-    let e = c.in-Err.ensures in
-    let o = Some (number_of c.in-Err.e) in
-    let r = declined (number_of c.in-Err.e) in
-    record {
-      the_first_condition_met_declines = e.the_first_condition_met_declines;
-      a_refusal_changes_nothing = e.a_refusal_changes_nothing;
-      the_note_names_the_section = tt;
-      the_reply_is_kept_after_any_calls = λ sheet. record {
-        kept = λ made calls st. from_book k p (possess s) (noted s) r o e.the_first_condition_met_declines refl made calls st sheet;
-        stands = book_left k p (possess s) (noted s) r o e.the_first_condition_met_declines _ refl refl refl refl e.a_refusal_changes_nothing;
-      };
-    }
+    let n = c.args.section in
+    let e = c.in_ok-close.ensures in
+    called k c.args.self.now (possess n) (Ok c.in_ok-close.field-0) e.the_first_condition_met_declines c.close.new.self e.a_refusal_changes_nothing
+    (noted n) (noted n) (λ w b s h. h) refl _ refl refl refl refl refl

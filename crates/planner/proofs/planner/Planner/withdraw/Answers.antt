@@ -1,25 +1,27 @@
-use Rattle.std.proofs.Common.{refl, ◌∙◌}
+use Rattle.std.proofs.Common.{refl}
 use Rattle.track.specs.Layouts.{sections_of}
-use Rattle.track.specs.Refusals.{refused_by}
 use Rattle.roster.specs.Book.{withdraw}
 use Rattle.planner.specs.Promise.{accepted}
-use Rattle.planner.specs.History.{meaning}
-use Rattle.planner.proofs.Runs.{done, still_placed, done_left}
+use Rattle.planner.specs.History.{meaning, says_done}
+use Rattle.planner.proofs.Runs.{still_placed, called, done_says}
 use Rattle.planner.proofs.planner.Planner.withdraw.Goals as goal
+
+pub returns-clause-the_first_condition_met_declines : goal.returns-clause-the_first_condition_met_declines
+returns-clause-the_first_condition_met_declines g c = c.withdraw.ensures.the_first_condition_met_declines (sections_of c.args.self.now.layout)
 
 pub invariant_of-self : goal.invariant_of-self
 invariant_of-self g c =
     let k = meaning g.R.Rule.conflicts g.S.Scale.measure g.Q.Search.takes in
-    let r = c.withdraw.result in
-    let left = c.withdraw.ensures.a_refusal_changes_nothing ∙ done_left r _ _ in
-    record {
-      placed = still_placed k c.args.self.now (withdraw c.args.number) accepted accepted (refused_by r) (c.withdraw.ensures.the_first_condition_met_declines (sections_of c.args.self.now.layout)) c.withdraw.new.self left;
-    }
+    let p = c.args.self.now in
+    let n = sections_of p.layout in
+    let e = c.withdraw.ensures in
+    record { placed = still_placed k p (withdraw c.args.number) c.withdraw.result (e.the_first_condition_met_declines n) c.withdraw.new.self e.a_refusal_changes_nothing }
 
-pub returns : goal.returns
-returns g c =
+pub returns-clause-the_reply_is_kept_after_any_calls : goal.returns-clause-the_reply_is_kept_after_any_calls
+returns-clause-the_reply_is_kept_after_any_calls g c =
     let k = meaning g.R.Rule.conflicts g.S.Scale.measure g.Q.Search.takes in
-    let d =
-    done k c.args.self.now _ (withdraw c.args.number) (λ w b reply s h. h) refl refl refl refl
-    c.withdraw.result (c.withdraw.ensures.the_first_condition_met_declines (sections_of c.args.self.now.layout)) c.withdraw.ensures.a_refusal_changes_nothing in
-    record { the_first_condition_met_declines = d.judged; a_refusal_changes_nothing = d.left; the_reply_is_kept_after_any_calls = d.step }
+    let p = c.args.self.now in
+    let n = sections_of p.layout in
+    let e = c.withdraw.ensures in
+    called k p (withdraw c.args.number) c.withdraw.result (e.the_first_condition_met_declines n) c.withdraw.new.self e.a_refusal_changes_nothing
+    accepted (says_done c.withdraw.result) (λ w b s h. h) (done_says c.withdraw.result) _ refl refl refl refl refl
