@@ -1,0 +1,22 @@
+use scales::pair::Pair;
+use scales::scale::Scale;
+use scales::steps::Steps;
+use scales::steps_then_points::StepsThenPoints;
+use std::io;
+
+// A scale that says in words what a sheet costs.
+pub trait InWords: Scale {
+    fn say(&self, rt: &HostRuntime, cost: Self::Cost) -> io::Result<()>;
+}
+
+impl InWords for Steps {
+    fn say(&self, rt: &HostRuntime, cost: u16) -> io::Result<()> {
+        print!(rt; "{cost} steps")
+    }
+}
+
+impl InWords for StepsThenPoints {
+    fn say(&self, rt: &HostRuntime, cost: Pair) -> io::Result<()> {
+        print!(rt; "{cost}")
+    }
+}
