@@ -106,9 +106,6 @@ module _ {C : Type 0} (S : Measure C) (L : MeasureLaws S) (K : Task) (spot : Spo
   todo_is : todo K spot.left spot.moved ≡ suc rests
   todo_is = omega arith
 
-  pub scan_none : Scanned 0 None
-  scan_none = record { cost = sym (cut_none S L bound); goes = tt; long = tt }
-
   row_is : (x : ℕ) → row x ≡ cond (may_move K spot.at spot.to spot.moved x) (with S (move_price S K spot.at spot.moved x) (rest S (process S K) rests (turned K.trains (take K.trains spot.at) (take spot.moved spot.to ++ (x ∷ []))))) None
   unfolding process
   row_is x =
@@ -201,12 +198,6 @@ module _ {C : Type 0} (S : Measure C) (L : MeasureLaws S) (K : Task) (spot : Spo
         long = H.long;
       }
 
-  pub join_fits : (x : ℕ) (c : C) → c ≡ move_price S K spot.at spot.moved x → S.size spot.sofar + S.size c ≤ 65535
-  join_fits x c e =
-      let ps : S.size (move_price S K spot.at spot.moved x) ≤ 16 = L.size_price _ _ (R.points_most _ _) in
-      let ps' : S.size c ≤ 16 = subst (λ z. S.size z ≤ 16) (sym e) ps in
-      omega (arith, R.size)
-
   pub ready_next : (x : ℕ) → Ready S K (after spot x (S.join spot.sofar (move_price S K spot.at spot.moved x)))
   ready_next x =
       let ps : S.size (move_price S K spot.at spot.moved x) ≤ 16 = L.size_price _ _ (R.points_most _ _) in
@@ -254,22 +245,6 @@ module _ {C : Type 0} (S : Measure C) (L : MeasureLaws S) (K : Task) (spot : Spo
           cost = W.cost ∙ ap₂ (λ n u. cut S bound (with S spot.sofar (rest S (process S K) n u))) m e;
           goes = goes_map r _ _ (λ w h. ap (λ n. take n (drop spot.place w)) (sym m) ∙ h ∙ ap₂ (λ n u. best S (process S K) n u) m e) W.goes;
           long = W.long;
-        }
-
-    pub ready_turn : 0 < spot.left → Ready S K (next_step spot)
-    ready_turn h =
-        let m : todo K (spot.left - 1) 0 ≡ todo K spot.left spot.moved =
-        (let p : spot.left ≡ suc (spot.left - 1) = omega arith in
-        let q : K.trains * spot.left ≡ K.trains * suc (spot.left - 1) = ap (λ u. K.trains * u) p in
-        let v = mul-suc K.trains (spot.left - 1) in omega arith) in
-        record {
-          points_most = R.points_most;
-          trains_some = R.trains_some;
-          trains_most = R.trains_most;
-          left_most = omega (arith, R.left_most);
-          in_group = omega arith;
-          room = omega (arith, R.room);
-          size = omega (arith, R.size);
         }
 
     -- the last step is made

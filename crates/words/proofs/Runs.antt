@@ -1,10 +1,12 @@
 -- A lawful sheet of all rows, read by time and then by row, is a run of the process; and back.
-use Rattle.std.proofs.Common.{◌≡◌, ℕ, zero, suc, ◌+◌, ◌*◌, ◌<◌, ◌≤◌, Bool, true, false, not, ◌&&◌, List, [], ◌∷◌, ◌++◌, length, get_or, sym, refl, ◌∙◌, subst, ⊎_elim, mul-zero, mul-suc, add-one, arith, length-append}
+use Rattle.std.proofs.Common.{◌≡◌, ℕ, zero, suc, ◌+◌, ◌*◌, ◌<◌, ◌≤◌, true, false, not, ◌&&◌, List, [], ◌∷◌, ◌++◌, length, get_or, sym, refl, ◌∙◌, subst, ⊎_elim, mul-zero, mul-suc, add-one, arith, length-append}
 use Rattle.std.proofs.lemmas.List.{get_or_append_left, get_or_at}
-use Rattle.std.proofs.lemmas.Bool.{cases_lt, cases_order, and_from, and_parts, eq-eqb, ne_eqb, eqb-true, not_from_false, not-true}
+use Rattle.std.proofs.lemmas.Bool.{cases_lt, cases_order, and_from, and_parts, eq-eqb, eqb-true, not_from_false, not-true}
 use Rattle.scales.specs.Measure.{Measure}
-use Rattle.sheets.specs.Problem.{all, Problem, ProblemLaws, Posed, Member, everyone, allowed}
+use Rattle.sheets.specs.Problem.{Problem, ProblemLaws, Posed, Member, everyone, allowed}
 use Rattle.sheets.specs.Plan.{Plan, Lawful, clash}
+use Rattle.sheets.proofs.Alls.{all_at, all_from}
+use Rattle.words.proofs.Turns.{turned_full, turned_part}
 use Rattle.words.specs.Words.{Run}
 use Rattle.words.specs.Joint.{Task, turned, clear, may_move, home, process}
 use Rattle.words.specs.Bridge.{counted, task_of_problem, row_word, sheet_word}
@@ -25,22 +27,6 @@ get_d_counted (suc n) f i h =
 pub counted_same : (n : ℕ) (f g : ℕ → ℕ) → ((i : ℕ) → i < n → f i ≡ g i) → counted n f ≡ counted n g
 counted_same zero f g h = refl
 counted_same (suc n) f g h = let a = counted_same n f g (λ i k. h i (omega arith)) in let b = h n (omega arith) in simp (a, b)
-
-all_from : (n : ℕ) (f : ℕ → Bool) → ((i : ℕ) → i < n → f i ≡ true) → all n f ≡ true
-all_from zero f h = refl
-all_from (suc n) f h = and_from (all n f) (f n) (all_from n f (λ i k. h i (omega arith))) (h n (omega arith))
-
-all_at : (n : ℕ) (f : ℕ → Bool) → all n f ≡ true → (i : ℕ) → i < n → f i ≡ true
-all_at zero f h i k = absurd (omega arith)
-all_at (suc n) f h i k =
-    let p = and_parts (all n f) (f n) h in
-    ⊎_elim (λ l. all_at n f p.0 i l) (λ l. let e : n ≡ i = omega arith in subst (λ z. f z ≡ true) e p.1) (cases_lt i n)
-
-pub turned_full : (k : ℕ) (p q : List ℕ) → length q ≡ k → turned k p q ≡ record { at = q; to = [] }
-turned_full k p q e = let b = eq-eqb (length q) k e in simp b
-
-pub turned_part : (k : ℕ) (p q : List ℕ) → length q < k → turned k p q ≡ record { at = p; to = q }
-turned_part k p q h = let b = ne_eqb (length q) k (λ e. omega arith) in simp b
 
 module _ (Q : Problem) (x : Plan) where
   abbrev pub K : Task

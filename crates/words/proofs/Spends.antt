@@ -8,7 +8,8 @@ use Rattle.words.specs.Words.{Process, spent}
 use Rattle.words.specs.Joint.{Joint, turned, move_price, process}
 use Rattle.words.specs.Bridge.{counted, row_word, sheet_word}
 use Rattle.words.proofs.Prices.{price_size}
-use Rattle.words.proofs.Runs.{length_counted, get_d_counted, counted_same, turned_part, turned_all, row, next, K}
+use Rattle.words.proofs.Turns.{turned_part}
+use Rattle.words.proofs.Runs.{length_counted, get_d_counted, counted_same, turned_all, row, next, K}
 
 pub length_row_word : (f : ℕ → ℕ) (j d : ℕ) → length (row_word f j d) ≡ d
 length_row_word f j zero = refl

@@ -1,4 +1,4 @@
-use Rattle.std.proofs.Common.{◌≡◌, Some, None, Err, refl, rules}
+use Rattle.std.proofs.Common.{◌≡◌, Some, None, Err, refl, arith, rules}
 use Rattle.search.specs.declared.answer.Unplanned.TheVariants.{NoSheet}
 use Rattle.sheets.proofs.Posed.{sound}
 use Rattle.words.proofs.Solving.{rows, none_lawful, solved_by}
@@ -8,7 +8,7 @@ pub write-requires-clause-rows : goal.write-requires-clause-rows
 write-requires-clause-rows g c = rows (g.R.Rule.conflicts c.args.asked.now.rule.now) c.args.asked.now.question.now c.args.chosen.now c.requires.chosen
 
 pub write-requires-clause-few : goal.write-requires-clause-few
-write-requires-clause-few g c = (sound c.args.asked.now.question.now).steps_most
+write-requires-clause-few g c = omega (arith, (sound c.args.asked.now.question.now).steps_most)
 
 pub returns-in_err-found : goal.returns-in_err-found
 returns-in_err-found g c =
