@@ -13,4 +13,3 @@ pub mod Solving
 pub mod Turns
 pub mod Pairs
 pub mod Made
-pub mod Boards

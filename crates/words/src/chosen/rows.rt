@@ -5,6 +5,7 @@ use crate::chosen::Chosen;
 use roster::train::Train;
 
 impl Chosen {
+    // One row more.
     pub(crate) fn add(&mut self, row: usize, train: Train)
         requires { self.old.trains < 8 }
         ensures one_row_more { self.new ≡ added self.old row train.start train.goal }
