@@ -44,7 +44,8 @@ impl Drawing {
         Ok(())
     }
 
-    // Links the sections `a` and `b`, with `points` points set on the link. A caller has the numbers of a frame, in this order.
+    // Links the sections `a` and `b`, with `points` points set on the link.
+    // The arguments are the numbers of a frame in their order: a `Link` made for the call would say no more.
     pub fn add_link(&mut self, a: u8, b: u8, points: u8) -> Result<(), Refusal>
         ensures the_first_condition_met_declines { refused_by result ≡ link_declined (drawn self.old) a b points }
         ensures a_refusal_changes_nothing { drawn self.new ≡ granted result (with_link (drawn self.old) a b points) (drawn self.old) }
@@ -69,7 +70,8 @@ impl Drawing {
         Ok(())
     }
 
-    // Notes that the link a-b crosses the link c-d on the ground. A caller has the numbers of a frame, in this order.
+    // Notes that the link a-b crosses the link c-d on the ground.
+    // The arguments are the numbers of a frame in their order: a `Foul` made for the call would say no more.
     pub fn add_foul(&mut self, a: u8, b: u8, c: u8, d: u8) -> Result<(), Refusal>
         ensures the_first_condition_met_declines { refused_by result ≡ foul_declined (drawn self.old) a b c d }
         ensures a_refusal_changes_nothing { drawn self.new ≡ granted result (with_foul (drawn self.old) a b c d) (drawn self.old) }

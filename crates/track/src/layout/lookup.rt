@@ -30,7 +30,7 @@ impl Layout {
         self.ways[usize::from(a)].ends()
     }
 
-    // Whether the links a-b and c-d cross on the ground. A caller has the four numbers of a frame, in this order.
+    // Whether the links a-b and c-d cross on the ground. They are named by their ends: a `Foul` made for the call would say no more.
     #[tactic(auto, unfolding(crate::specs::Layouts::fouled))]
     pub fn fouls(&self, a: u8, b: u8, c: u8, d: u8) -> bool
         ensures whether_the_links_foul { result ≡ fouled self.now a b c d }

@@ -9,7 +9,7 @@ use std::array;
 impl Ways {
     // The ways from `a` over the links.
     pub(crate) fn over(links: &[Link], a: u8) -> Ways
-        ensures the_points_on_each_way { result.points ≡ points_along links.now a }
+        ensures the_ways_from_the_section { result.points ≡ points_along links.now a }
     {
         let points = points_from(links, a);
         let mut ends = [0; 32];
