@@ -40,5 +40,5 @@ pub(crate) fn points_in(links: &[Link], a: u8, b: u8) -> Option<u8>
 pub(crate) fn linked_in(links: &[Link], a: u8, b: u8) -> bool
     ensures whether_a_link_joins_them { result ≡ linked_either links.now a b }
 {
-    links.iter().any(|link| link.runs_between(a, b))
+    points_in(links, a, b).is_some() || points_in(links, b, a).is_some()
 }
