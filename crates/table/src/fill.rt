@@ -20,8 +20,8 @@ fn fill_last<S: Scale, R: Rule>(
     ensures the_column_is_filled { Column (S.Scale.measure board.now.scale.now) (task R.Rule.conflicts board.now) 0 positions.now.count column.new }
 {
     for (code, cell) in column.iter_mut().enumerate() {
-        let home = board.all_home(positions.decode(code));
-        *cell = home.then(|| board.scale.nothing());
+        let at = positions.decode(code);
+        *cell = board.all_home(at).then(|| board.scale.nothing());
     }
 }
 

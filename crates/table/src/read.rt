@@ -21,6 +21,7 @@ fn plan_of<S: Scale, R: Rule, N: Rests<S::Cost>>(board: &Board<S, R>, rests: &N)
 {
     let mut plan = [0; 128];
     let mut at = board.start;
+    // by the step: after a loop over `chunks_exact_mut` a proof knows no row that it wrote
     for t in 0..board.steps {
         at = joint_step(board, rests, board.steps - 1 - t, at);
         let base = board.trains * t;

@@ -77,6 +77,8 @@ pub(crate) fn best_move<S: Scale, R: Rule, N: Rests<S::Cost>>(
 {
     let tries = candidates(board.layout, at[j]);
     let sections = tries.sections();
+    // room for every try, so that no memory is asked for; a cell is written by its place,
+    // since after a loop over a zip with `iter_mut` a proof knows no cell that it wrote
     let mut run = [None; 33];
     for (i, x) in sections.iter().enumerate() {
         run[i] = move_cost(board, rests, left, at, to, j, *x);
@@ -102,6 +104,7 @@ pub(crate) fn joint_step<S: Scale, R: Rule, N: Rests<S::Cost>>(
     ensures the_best_word_goes_on_from_there { Stepped (S.Scale.measure board.now.scale.now) (task R.Rule.conflicts board.now) left at result }
 {
     let mut to = [0; 8];
+    // by the number of the train, which the search is told
     for j in 0..board.trains {
         let pick = best_move(board, rests, left, at, to, j).unwrap();
         to[j] = pick.section;

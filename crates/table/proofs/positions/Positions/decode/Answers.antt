@@ -14,9 +14,6 @@ overflow_cast-at c =
 pub nonzero_div-left : goal.nonzero_div-left
 nonzero_div-left c = omega (arith, c.from-left.ensures, base_some c.args.self.now.sections c.args.self.now.trains _ c.args.code c.args.self.now.all c.requires (omega arith))
 
-pub loop-i-init : goal.loop-i-init
-loop-i-init c = (refl, decode_start c.args.self.now.trains _ _ (omega (arith, c.args.self.now.few)))
-
 pub loop-i-preserved : goal.loop-i-preserved
 loop-i-preserved c = (
   simp length-set c.loop-i.invariant.0,
