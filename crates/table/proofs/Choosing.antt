@@ -1,14 +1,13 @@
 -- The search of one joint step: a turn of its loop, its end and its last train.
-use Rattle.std.proofs.Common.{◌≡◌, ℕ, suc, ◌+◌, ◌*◌, ◌<◌, ◌≤◌, Bool, true, false, cond, ◌≢◌, List, [], ◌∷◌, ◌++◌, length, get_or, take, set, Some, None, Option, sym, ap, ◌∙◌, subst, ap₂, ⊎_elim, add-one, arith, length-set, length-take-le, get_or-set_other, get_or-take, get_or-set_same, take-suc-set}
-use Rattle.std.proofs.lemmas.Bool.{and_left, cases_lt}
+use Rattle.std.proofs.Common.{◌≡◌, ℕ, suc, ◌+◌, ◌<◌, ◌≤◌, Bool, true, false, cond, List, [], ◌∷◌, ◌++◌, length, get_or, take, set, Some, None, Option, sym, ap, ◌∙◌, add-one, arith, length-take-le, get_or-take, take-suc-set}
+use Rattle.std.proofs.lemmas.Bool.{and_left}
 use Rattle.scales.specs.Measure.{Measure, MeasureLaws}
 use Rattle.scales.specs.Runs.{FirstLeast}
 use Rattle.words.specs.Words.{with, rest}
 use Rattle.words.specs.Joint.{Task, turned, may_move, move_price, process}
-use Rattle.words.specs.Tasks.{begin}
-use Rattle.words.proofs.Turns.{turned_full, turned_part, may_same, price_same}
+use Rattle.words.proofs.Turns.{turned_part, may_same, price_same}
 use Rattle.table.specs.Candidates.{Candidates}
-use Rattle.table.specs.Steps.{todo, move_cost, Ready, Picked}
+use Rattle.table.specs.Steps.{todo, move_cost, Picked}
 use Rattle.table.proofs.Tryings.{pick_at, tried_cost, tried_moves}
 
 -- the cells of the first i candidates are filled
@@ -52,13 +51,6 @@ module _ {C : Type 0} (S : Measure C) (K : Task) (left j : ℕ) (at to : List �
   pub row_none : (x : ℕ) → may_move K at to j x ≡ false → None ≡ row x
   row_none x e = sym (row_is x ∙ ap (λ m. cond m (with S (move_price S K at j x) (rest S (process S K) (todo K left (j + 1)) (turned K.trains (take K.trains at) (take j to ++ (x ∷ []))))) None) e)
 
-  pub fill_put : (xs : List ℕ) (i : ℕ) (run : List (Option C)) (v : Option C) → i < 33 → Filling S K left j at to xs i run → v ≡ row (get_or xs i 0) → Filling S K left j at to xs (i + 1) (set run i v)
-  fill_put xs i run v h33 F e = record {
-    long = length-set run i v ∙ F.long;
-    filled = λ p h. ⊎_elim (λ l. let ne : p ≢ i = (λ q. omega arith) in get_or-set_other run i p v None ne ∙ F.filled p l)
-        (λ l. let q : i ≡ p = omega arith in subst (λ z. get_or (set run i v) z None ≡ row (get_or xs z 0)) q (get_or-set_same run i v None (omega (arith, F.long)) ∙ e)) (cases_lt p i);
-  }
-
   todo_is : todo K left j ≡ suc (todo K left (j + 1))
   todo_is = omega arith
 
@@ -76,19 +68,3 @@ module _ {C : Type 0} (S : Measure C) (K : Task) (left j : ℕ) (at to : List �
         cost = rw (u, m) (tried_cost S L K.sections reach xs T row (λ x e. row_shut x (wide x e)) found A);
         goes = tried_moves S L K.sections reach xs T row (λ x e. row_shut x (wide x e)) found A;
       }
-
--- all trains have moved: what is known says what is left
-pub rest_end : {C : Type 0} (S : Measure C) (K : Task) (left j : ℕ) (at to : List ℕ) (o : Option C) → j ≡ K.trains → K.trains ≤ length to
-    → o ≡ rest S (process S K) (K.trains * left) (begin K to) → o ≡ rest S (process S K) (todo K left j) (turned K.trains (take K.trains at) (take j to))
-rest_end S K left j at to o e kt k =
-    let t : turned K.trains (take K.trains at) (take j to) ≡ begin K to = ap (λ i. turned K.trains (take K.trains at) (take i to)) e ∙ turned_full K.trains _ _ (length-take-le K.trains to kt) in
-    let m : K.trains * left ≡ todo K left j = omega arith in
-    k ∙ ap₂ (λ n u. rest S (process S K) n u) m (sym t)
-
-pub ready_next : (K : Task) (j x : ℕ) (at to : List ℕ) → Ready K j at to → j < K.trains → j < length to → x < K.sections → Ready K (j + 1) at (set to j x)
-ready_next K j x at to R jk jl xs = record {
-  in_group = omega arith;
-  at_inside = R.at_inside;
-  to_inside = λ i h. ⊎_elim (λ l. let ne : i ≢ j = (λ q. omega arith) in subst (λ z. z < K.sections) (sym (get_or-set_other to j i x 0 ne)) (R.to_inside i l))
-      (λ l. let q : j ≡ i = omega arith in subst (λ z. get_or (set to j x) z 0 < K.sections) q (subst (λ z. z < K.sections) (sym (get_or-set_same to j x 0 jl)) xs)) (cases_lt i j);
-}

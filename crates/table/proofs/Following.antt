@@ -1,7 +1,6 @@
 -- Following the best word, one train after the other and one step after the other.
 use Rattle.std.proofs.Common.{◌≡◌, ℕ, suc, ◌+◌, ◌-◌, ◌*◌, ◌<◌, ◌≤◌, true, false, ◌≢◌, List, [], ◌∷◌, ◌++◌, length, get_or, take, set, is_some, Some, None, Option, sym, refl, ap, ◌∙◌, subst, ap₂, ⊎_elim, mul-zero, mul-add, add-one, arith, length-set, length-take-le, get_or-set_other, get_or-set_same, take-suc-set}
 use lib.Seq.{append_snoc}
-use Rattle.std.specs.Option.{option_map}
 use Rattle.std.proofs.lemmas.List.{append-nil, append_assoc}
 use Rattle.std.proofs.lemmas.Bool.{cases_lt, both_ways}
 use Rattle.scales.specs.Measure.{Measure, MeasureLaws}
@@ -13,11 +12,7 @@ use Rattle.words.proofs.Least.{firstly}
 use Rattle.words.proofs.BestWords.{choice_some}
 use Rattle.table.specs.Steps.{todo, move_cost, Picked, Can, Stepped}
 use Rattle.table.specs.declared.pick.Pick.{Pick}
-use Rattle.words.proofs.Turns.{turned_part, turned_full}
-
-pub some_cost : {C : Type 0} (r : Option (Pick C)) (o : Option C) → option_map (λ p. p.cost) r ≡ o → is_some o ≡ true → is_some r ≡ true
-some_cost None o e h = ap is_some e ∙ h
-some_cost (Some p) o e h = refl
+use Rattle.words.proofs.Turns.{turned_part}
 
 some_is : {C : Type 0} (o : Option C) (d : C) → o ≡ Some d → is_some o ≡ true
 some_is o d e = ap is_some e
@@ -30,22 +25,6 @@ pub record Stepping {C : Type 0} (S : Measure C) (K : Task) (left : ℕ) (at : L
   pub word : take j to ++ best S (process S K) (todo K left j) (turned K.trains (take K.trains at) (take j to)) ≡ best S (process S K) (K.trains * (left + 1)) (begin K at)
 
 module _ {C : Type 0} (S : Measure C) (L : MeasureLaws S) (K : Task) (left : ℕ) (at : List ℕ) (k1 : 1 ≤ K.trains) (k8 : K.trains ≤ 8) where
-  todo_all : todo K left 0 ≡ K.trains * (left + 1)
-  todo_all = let a = mul-add K.trains left 1 in omega arith
-
-  begins : turned K.trains (take K.trains at) [] ≡ begin K at
-  begins = turned_part K.trains (take K.trains at) [] (omega arith)
-
-  pub step_start : (to : List ℕ) → length to ≡ 8 → take 0 to ≡ [] → Can S K (left + 1) at → Stepping S K left at 0 to
-  step_start to l e h =
-      let b : turned K.trains (take K.trains at) (take 0 to) ≡ begin K at = ap (turned K.trains (take K.trains at)) e ∙ begins in
-      record {
-        long = l;
-        inside = λ i z. absurd (omega arith);
-        can = ap₂ (λ n u. is_some (rest S (process S K) n u)) todo_all b ∙ h;
-        word = ap (λ w. w ++ best S (process S K) (todo K left 0) (turned K.trains (take K.trains at) (take 0 to))) e ∙ ap₂ (λ n u. best S (process S K) n u) todo_all b;
-      }
-
   module _ (j : ℕ) (to : List ℕ) (jk : j < K.trains) (W : Stepping S K left at j to) where
     abbrev here : Joint
     here = record { at = take K.trains at; to = take j to }
@@ -103,18 +82,6 @@ module _ {C : Type 0} (S : Measure C) (L : MeasureLaws S) (K : Task) (left : ℕ
               ∙ W.word;
         }
 
-  pub step_done : (j : ℕ) (to : List ℕ) → j ≡ K.trains → Stepping S K left at j to → Stepped S K left at to
-  step_done j to e W =
-      let W' : Stepping S K left at K.trains to = subst (λ i. Stepping S K left at i to) e W in
-      let l : length (take K.trains to) ≡ K.trains = length-take-le K.trains to (omega (arith, W.long)) in
-      let b : turned K.trains (take K.trains at) (take K.trains to) ≡ begin K to = turned_full K.trains _ _ l in
-      let m : todo K left K.trains ≡ K.trains * left = omega arith in
-      record {
-        word = ap₂ (λ n u. take K.trains to ++ best S (process S K) n u) (sym m) (sym b) ∙ W'.word;
-        can = ap₂ (λ n u. is_some (rest S (process S K) n u)) (sym m) (sym b) ∙ W'.can;
-        inside = W'.inside;
-      }
-
 -- t steps are written, and the best word goes on from where the trains are
 pub record Followed {C : Type 0} (S : Measure C) (K : Task) (steps : ℕ) (start : List ℕ) (t : ℕ) (at plan : List ℕ) : Type 0 where
   pub long : length plan ≡ 128
@@ -124,23 +91,6 @@ pub record Followed {C : Type 0} (S : Measure C) (K : Task) (steps : ℕ) (start
   pub word : take (K.trains * t) plan ++ best S (process S K) (K.trains * (steps - t)) (begin K at) ≡ best S (process S K) (K.trains * steps) (begin K start)
 
 module _ {C : Type 0} (S : Measure C) (K : Task) (steps : ℕ) (start : List ℕ) where
-  pub follow_start : (plan : List ℕ) → length plan ≡ 128 → length start ≡ 8 → take 0 plan ≡ [] → On K K.trains start → Can S K steps start → Followed S K steps start 0 start plan
-  follow_start plan lp ls e o h =
-      let z : K.trains * 0 ≡ 0 = mul-zero K.trains in
-      let n : steps - 0 ≡ steps = omega arith in
-      record {
-        long = lp;
-        eight = ls;
-        inside = o;
-        can = ap (λ m. is_some (rest S (process S K) (K.trains * m) (begin K start))) n ∙ h;
-        word = ap₂ (λ a m. take a plan ++ best S (process S K) (K.trains * m) (begin K start)) z n ∙ ap (λ w. w ++ best S (process S K) (K.trains * steps) (begin K start)) e;
-      }
-
-  pub follow_can : (t : ℕ) (at plan : List ℕ) → t < steps → Followed S K steps start t at plan → Can S K (steps - 1 - t + 1) at
-  follow_can t at plan h F =
-      let n : steps - 1 - t + 1 ≡ steps - t = omega arith in
-      ap (λ m. is_some (rest S (process S K) (K.trains * m) (begin K at))) n ∙ F.can
-
   pub follow_more : (t : ℕ) (at plan to plan' : List ℕ) → t < steps → Followed S K steps start t at plan → Stepped S K (steps - 1 - t) at to → length to ≡ 8 → length plan' ≡ 128
       → take (K.trains * t + K.trains) plan' ≡ take (K.trains * t) plan ++ take K.trains to → Followed S K steps start (t + 1) to plan'
   follow_more t at plan to plan' h F W lt lp e =

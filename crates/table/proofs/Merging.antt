@@ -1,10 +1,12 @@
 -- The neighbours of a section and itself, put together in rising order.
-use Rattle.std.proofs.Common.{◌≡◌, ℕ, zero, suc, ◌+◌, ◌-◌, ◌<◌, ◌≤◌, true, false, eqb, List, [], ◌∷◌, length, get_or, take, is_some, Some, None, Option, sym, refl, ap, ◌∙◌, subst, ⊎_elim, arith}
-use Rattle.std.proofs.lemmas.Bool.{cases_lt, or_cases, eqb-true, and_parts, cond-false, both_ways}
+use Rattle.std.proofs.Common.{◌≡◌, ℕ, zero, suc, ◌+◌, ◌-◌, ◌<◌, ◌≤◌, true, false, cond, eqb, List, [], ◌∷◌, length, get_or, is_some, Some, None, Option, sym, refl, ap, ◌∙◌, subst, ⊎_elim, arith}
+use Rattle.std.proofs.lemmas.Bool.{cases_lt, or_cases, eqb-true, and_parts, both_ways}
 use Rattle.std.proofs.lemmas.Bool.Decides.{nat_tests}
 use Rattle.std.proofs.lemmas.List.Edits.{length-insert, get_or-insert_below, get_or-insert_at, get_or-insert_above}
-use Rattle.std.specs.List.{insert}
+use Rattle.std.specs.List.{insert, find}
+use Rattle.std.specs.Option.{option_map}
 use Rattle.track.specs.Links.{joins, points_of, link_good, links_good}
+use Rattle.track.specs.Model.{laid}
 use Rattle.track.specs.Layouts.{sections_of, look, Neighbours}
 use Rattle.track.specs.declared.layout.Layout.{Layout}
 use Rattle.track.specs.declared.link.Link.{Link}
@@ -19,11 +21,11 @@ points_self : (n : ℕ) (ls : List Link) (a : ℕ) → links_good n ls ≡ true 
 points_self n [] a g = cc
 points_self n (l ∷ ls) a g =
     let p = and_parts (link_good n l) (links_good n ls) g in
-    ap is_some (cond-false (joins l a a) (Some l.points) (points_of ls a a) (joins_self n l a p.0)) ∙ points_self n ls a p.1
+    ap (λ b. is_some (option_map (λ (k : Link). k.points) (cond b (Some l) (find (λ (k : Link). joins k a a) ls)))) (joins_self n l a p.0) ∙ points_self n ls a p.1
 
 look_self : (l : Layout) (a : ℕ) → is_some (look l a a) ≡ false
 unfolding look
-look_self l a = points_self l.sections (take l.link_count l.links) a l.sound
+look_self l a = points_self (laid l).sections (laid l).links a l.drawing.sound
 
 -- numbers that rise are no fewer than their places
 rises : (xs : List ℕ) → ((i j : ℕ) → i < j → j < length xs → get_or xs i 0 < get_or xs j 0) → (i : ℕ) → i < length xs → i ≤ get_or xs i 0

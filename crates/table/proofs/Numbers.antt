@@ -1,18 +1,11 @@
 -- Numbers of joint positions.
-use Rattle.std.proofs.Common.{◌≡◌, ℕ, zero, suc, ◌+◌, ◌-◌, ◌*◌, ◌/◌, ◌%◌, ◌^◌, ◌<◌, ◌≤◌, List, [], ◌∷◌, ◌++◌, length, get_or, take, drop, set, sym, refl, ap, ◌∙◌, subst, ⊎_elim, mod-lt, pow-suc, add-one, arith, length-append, length-set, length-take, length-take-le, drop-cons, get_or-take, take-suc, get_or-set_same, drop-set-lt}
+use Rattle.std.proofs.Common.{◌≡◌, ℕ, zero, suc, ◌+◌, ◌-◌, ◌*◌, ◌/◌, ◌%◌, ◌^◌, ◌<◌, ◌≤◌, List, [], ◌∷◌, ◌++◌, length, get_or, take, drop, set, sym, refl, ap, ◌∙◌, subst, ⊎_elim, mod-lt, pow-suc, add-one, arith, length-append, length-set, length-take, drop-cons, get_or-take, take-suc, get_or-set_same, drop-set-lt}
 use native.Mathlib.Nat.{pow-zero, pow-le-pow_left, pow-le-pow_right}
 use lib.Arith.{digits_lt, digits_div, digits_mod}
 use lib.ListN.{get_or-append}
-use lib.Seq.{take-set-lt, append_snoc, drop-length, get_or-append_seam}
-use Rattle.std.proofs.lemmas.List.{append-nil}
+use lib.Seq.{take-set-lt, append_snoc, get_or-append_seam}
 use Rattle.std.proofs.lemmas.Bool.{cases_lt}
 use Rattle.table.specs.Codes.{digits, code_of}
-
-drop_taken : (k : ℕ) (l : List ℕ) → k ≤ length l → drop k (take k l) ≡ []
-drop_taken k l h = let e = length-take-le k l h in subst (λ z. drop z (take k l) ≡ []) e (drop-length (take k l))
-
-pub decode_start : (k : ℕ) (l d : List ℕ) → k ≤ length l → d ++ drop k (take k l) ≡ d
-decode_start k l d h = let e = drop_taken k l h in simp e (append-nil d)
 
 pub decode_step : (n k i c : ℕ) (at whole : List ℕ) → 0 < i → i ≤ k → k ≤ length at → digits n i c ++ drop i (take k at) ≡ whole
     → digits n (i - 1) (c / n) ++ drop (i - 1) (take k (set at (i - 1) (c % n))) ≡ whole

@@ -38,12 +38,6 @@ module _ {C : Type 0} (S : Measure C) (K : Task) (size : ℕ) where
       (ap (λ z. get_or (done ++ (column ++ after)) z None) p ∙ get_or-append-add done (column ++ after) code None ∙ get_or_append_left column after None code (omega arith) ∙ G code h))
       (cases_lt l (left + 1))
 
-  pub columns_first : (column after : List (Option C)) → length column ≡ size → Column S K 0 size column → Columns S K 0 size (column ++ after)
-  columns_first column after f G l code k h =
-      let q : l ≡ 0 = omega arith in
-      let p : 0 * size + code ≡ code = omega arith in
-      subst (λ z. get_or (column ++ after) (z * size + code) None ≡ due S K z code) (sym q) (ap (λ z. get_or (column ++ after) z None) p ∙ get_or_append_left column after None code (omega arith) ∙ G code h)
-
 module _ {C : Type 0} (S : Measure C) (K : Task) where
   -- the rest from where no train has moved is what is due
   pub due_next : (left i : ℕ) (at : List ℕ) → 1 ≤ K.trains → take K.trains at ≡ digits K.sections K.trains i

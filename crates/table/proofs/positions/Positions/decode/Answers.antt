@@ -1,6 +1,6 @@
-use Rattle.std.proofs.Common.{◌≡◌, ◌<◌, refl, arith, length-set}
+use Rattle.std.proofs.Common.{◌≡◌, ◌<◌, arith, length-set}
 use Rattle.table.specs.Codes.{digits}
-use Rattle.table.proofs.Numbers.{base_some, decode_start, decode_step}
+use Rattle.table.proofs.Numbers.{base_some, decode_step}
 use Rattle.table.proofs.positions.Positions.decode.Goals as goal
 
 pub nonzero_rem-at : goal.nonzero_rem-at
