@@ -1,4 +1,5 @@
-use crate::ring;
+ghost use Rattle.std.specs.Prelude.{◌≤◌, length};
+
 use roster::roster::Roster;
 use roster::train::Train;
 use rules::clear_section::ClearSection;
@@ -8,15 +9,22 @@ use scales::pair::Pair;
 use scales::scale::Scale;
 use scales::steps::Steps;
 use scales::steps_then_points::StepsThenPoints;
-use search::answer::Answer;
+use search::answer::{Answer, Unplanned};
 use search::search::Search;
+use sheets::asked::Asked;
+use sheets::everyone::everyone;
 use sheets::pose::ask;
 use sheets::sheet::Sheet;
 use std::process::Abort;
 use std::test::Fail;
 use table::table::Table;
+use track::drawing::Drawing;
+use track::layout::Layout;
 use track::refusal::Refusal;
 use walk::walk::Walk;
+
+// The ends of each link, and the points that it runs over: 0-1 leads to a ring 1-2-3-4.
+const RING: [(u8, u8, u8); 5] = [(0, 1, 0), (1, 2, 2), (2, 3, 1), (1, 4, 1), (3, 4, 1)];
 
 const SEVEN: Train = Train {
     number: 7,
@@ -35,12 +43,21 @@ const BLANK: Sheet = Sheet {
     rows: [[31; 17]; 8],
 };
 
-fn row(sections: &[u8]) -> [u8; 17] {
+fn row(sections: &[u8]) -> [u8; 17]
+    requires { length sections.now ≤ 17 }
+{
     let mut all = [31; 17];
-    for (place, section) in all.iter_mut().zip(sections.iter()) {
-        *place = *section;
-    }
+    all[..sections.len()].copy_from_slice(sections);
     all
+}
+
+fn ring() -> Result<Layout, Refusal> {
+    let mut drawing = Drawing::new();
+    drawing.add_sections(5)?;
+    for (a, b, points) in RING {
+        drawing.add_link(a, b, points)?;
+    }
+    Ok(drawing.finish())
 }
 
 // The answer of a search to all trains of a roster together, and the sheet.
@@ -54,20 +71,14 @@ fn planned<S: Scale, R: Rule, Q: Search<S>>(
 ) -> Result<(Answer<S::Cost>, Sheet), Refusal> {
     let layout = ring()?;
     let roster = Roster::of(&layout, trains)?;
-    let count = roster.count();
-    let group = [
-        0 < count,
-        1 < count,
-        2 < count,
-        3 < count,
-        4 < count,
-        5 < count,
-        6 < count,
-        7 < count,
-    ];
-    let question = ask(&layout, &roster, group, steps)?;
+    let question = ask(&layout, &roster, everyone(&roster), steps)?;
+    let asked = Asked {
+        rule,
+        scale,
+        question: &question,
+    };
     let mut sheet = BLANK;
-    let answer = search.search(rule, scale, &question, cells, &mut sheet);
+    let answer = search.search(&asked, cells, &mut sheet);
     Ok((answer, sheet))
 }
 
@@ -80,28 +91,19 @@ fn by_both<R: Rule>(
     steps: usize,
 ) -> Result<(Answer<u16>, Sheet), Fail> {
     let mut walk = Walk::new(2)?;
-    let (answer, sheet) = planned(&mut walk, rule, &Steps, &mut [None], trains, steps)?;
-    let (again, same) = planned(&mut Table, rule, &Steps, cells, trains, steps)?;
-    assert!(rt; again == answer);
-    assert_eq!(rt; same, sheet);
+    let told = planned(&mut walk, rule, &Steps, &mut [None], trains, steps)?;
+    let again = planned(&mut Table, rule, &Steps, cells, trains, steps)?;
+    assert_eq!(rt; again, told);
     let fewer = cells.len().saturating_sub(1);
-    let (beyond, untouched) = planned(
-        &mut Table,
-        rule,
-        &Steps,
-        &mut cells[0..fewer],
-        trains,
-        steps,
-    )?;
-    assert!(rt; beyond == Answer::BeyondReach);
-    assert_eq!(rt; untouched, BLANK);
-    Ok((answer, sheet))
+    let beyond = planned(&mut Table, rule, &Steps, &mut cells[..fewer], trains, steps)?;
+    assert_eq!(rt; beyond, (Err(Unplanned::BeyondReach), BLANK));
+    Ok(told)
 }
 
 #[test]
 fn alone_by_steps(rt: HostRuntime) -> Result<(), Fail> {
     let (answer, sheet) = by_both(&rt, &Following, &mut [None; 25], &[SEVEN], 4)?;
-    assert!(rt; answer == Answer::Found(3));
+    assert_eq!(rt; answer, Ok(3));
     assert_eq!(rt; sheet.rows[0], row(&[0, 1, 2, 3, 3]));
     assert_eq!(rt; sheet.rows[1], BLANK.rows[1]);
     Ok(())
@@ -110,7 +112,7 @@ fn alone_by_steps(rt: HostRuntime) -> Result<(), Fail> {
 #[test]
 fn alone_by_points(rt: HostRuntime) -> Result<(), Fail> {
     let mut walk = Walk::new(2)?;
-    let (answer, sheet) = planned(
+    let told = planned(
         &mut walk,
         &Following,
         &StepsThenPoints,
@@ -118,15 +120,7 @@ fn alone_by_points(rt: HostRuntime) -> Result<(), Fail> {
         &[SEVEN],
         4,
     )?;
-    assert!(rt;
-        answer
-            == Answer::Found(Pair {
-                steps: 3,
-                points: 2,
-            })
-    );
-    assert_eq!(rt; sheet.rows[0], row(&[0, 1, 4, 3, 3]));
-    let (again, same) = planned(
+    let again = planned(
         &mut Table,
         &Following,
         &StepsThenPoints,
@@ -134,15 +128,21 @@ fn alone_by_points(rt: HostRuntime) -> Result<(), Fail> {
         &[SEVEN],
         4,
     )?;
-    assert!(rt; again == answer);
-    assert_eq!(rt; same, sheet);
+    assert_eq!(rt; again, told);
+    let (answer, sheet) = told;
+    let cost = Pair {
+        steps: 3,
+        points: 2,
+    };
+    assert_eq!(rt; answer, Ok(cost));
+    assert_eq!(rt; sheet.rows[0], row(&[0, 1, 4, 3, 3]));
     Ok(())
 }
 
 #[test]
 fn two_following(rt: HostRuntime) -> Result<(), Fail> {
     let (answer, sheet) = by_both(&rt, &Following, &mut [None; 125], &[SEVEN, NINE], 4)?;
-    assert!(rt; answer == Answer::Found(6));
+    assert_eq!(rt; answer, Ok(6));
     assert_eq!(rt; sheet.rows[0], row(&[0, 1, 4, 3, 3]));
     assert_eq!(rt; sheet.rows[1], row(&[3, 2, 1, 0, 0]));
     Ok(())
@@ -151,7 +151,7 @@ fn two_following(rt: HostRuntime) -> Result<(), Fail> {
 #[test]
 fn two_with_clear_sections(rt: HostRuntime) -> Result<(), Fail> {
     let (answer, sheet) = by_both(&rt, &ClearSection, &mut [None; 125], &[NINE, SEVEN], 4)?;
-    assert!(rt; answer == Answer::Found(7));
+    assert_eq!(rt; answer, Ok(7));
     assert_eq!(rt; sheet.rows[0], row(&[0, 1, 4, 3, 3]));
     assert_eq!(rt; sheet.rows[1], row(&[3, 2, 2, 1, 0]));
     Ok(())
@@ -159,8 +159,7 @@ fn two_with_clear_sections(rt: HostRuntime) -> Result<(), Fail> {
 
 #[test]
 fn none_in_three_steps(rt: HostRuntime) -> Result<(), Fail> {
-    let (answer, sheet) = by_both(&rt, &ClearSection, &mut [None; 100], &[SEVEN, NINE], 3)?;
-    assert!(rt; answer == Answer::NoSheet);
-    assert_eq!(rt; sheet, BLANK);
+    let told = by_both(&rt, &ClearSection, &mut [None; 100], &[SEVEN, NINE], 3)?;
+    assert_eq!(rt; told, (Err(Unplanned::NoSheet), BLANK));
     Ok(())
 }

@@ -1,16 +1,24 @@
 // From an empty drawing to a printed plan: a small throat, two trains that meet in it, and the walk search.
 #![tactic(auto)]
 
+mod declined;
+mod in_words;
+mod row;
+
+use crate::declined::Declined;
+use crate::in_words::InWords;
+use crate::row::Row;
 use roster::roster::Roster;
 use roster::train::Train;
 use rules::clear_section::ClearSection;
 use rules::following::Following;
 use rules::rule::Rule;
-use scales::pair::Pair;
 use scales::steps::Steps;
 use scales::steps_then_points::StepsThenPoints;
-use search::answer::Answer;
+use search::answer::Unplanned;
 use search::search::Search;
+use sheets::asked::Asked;
+use sheets::everyone::everyone;
 use sheets::pose::ask;
 use sheets::question::Question;
 use sheets::sheet::Sheet;
@@ -20,25 +28,32 @@ use track::layout::Layout;
 use track::refusal::Refusal;
 use walk::walk::Walk;
 
-// The up line 0-1-2-3 and the down line 4-5-6-7, joined by two crossovers that cross on the ground, and a platform loop at 8.
+// The ends of each link, and the points that it runs over: the up line 0-1-2-3 and the down line 4-5-6-7, two crossovers and a platform loop
+// at 8.
+const LINKS: [(u8, u8, u8); 10] = [
+    (0, 1, 0),
+    (1, 2, 2),
+    (2, 3, 1),
+    (4, 5, 0),
+    (5, 6, 1),
+    (6, 7, 0),
+    (1, 6, 2),
+    (2, 5, 2),
+    (1, 8, 1),
+    (3, 8, 1),
+];
+
+// Draws these links; the crossovers cross on the ground.
 fn draw_throat(drawing: &mut Drawing) -> Result<(), Refusal> {
     drawing.add_sections(9)?;
-    drawing.add_link(0, 1, 0)?;
-    drawing.add_link(1, 2, 2)?;
-    drawing.add_link(2, 3, 1)?;
-    drawing.add_link(4, 5, 0)?;
-    drawing.add_link(5, 6, 1)?;
-    drawing.add_link(6, 7, 0)?;
-    drawing.add_link(1, 6, 2)?;
-    drawing.add_link(2, 5, 2)?;
-    drawing.add_link(1, 8, 1)?;
-    drawing.add_link(3, 8, 1)?;
+    for (a, b, points) in LINKS {
+        drawing.add_link(a, b, points)?;
+    }
     drawing.add_foul(1, 6, 2, 5)
 }
 
 fn show_refusal(rt: &HostRuntime, what: &str, refusal: Refusal) -> io::Result<()> {
-    let number = refusal.number();
-    println!(rt; "{what}: declined with {number}, {refusal:?}")
+    println!(rt; "{}", Declined { what, refusal })
 }
 
 fn show_fouls(rt: &HostRuntime, layout: &Layout, a: u8, b: u8) -> io::Result<()> {
@@ -72,86 +87,75 @@ fn show_layout(rt: &HostRuntime, layout: &Layout) -> io::Result<()> {
 }
 
 fn show_question(rt: &HostRuntime, question: &Question) -> io::Result<()> {
-    let steps = question.steps;
     println!(rt; "")?;
-    println!(rt; "the question: {steps} steps")?;
-    for row in 0..question.roster.count() {
-        if let Some(train) = question.roster.train(row) {
-            let number = train.number;
-            let start = train.start;
-            let goal = train.goal;
-            println!(rt; "  train {number:4} from {start} to {goal}")?;
-        }
+    println!(rt; "the question: {} steps", question.steps)?;
+    for train in question.roster.trains() {
+        println!(rt;
+            "  train {:4} from {} to {}",
+            train.number, train.start, train.goal
+        )?;
     }
     Ok(())
-}
-
-fn show_row(rt: &HostRuntime, row: [u8; 17], times: usize) -> io::Result<()> {
-    for section in row.iter().take(times).copied() {
-        print!(rt; " {section:2}")?;
-    }
-    println!(rt; "")
 }
 
 fn show_sheet(rt: &HostRuntime, question: &Question, sheet: &Sheet) -> io::Result<()> {
-    for row in 0..question.roster.count() {
-        if let Some(train) = question.roster.train(row) {
-            let number = train.number;
-            print!(rt; "  train {number:4}:")?;
-            show_row(rt, sheet.rows[row], question.steps.saturating_add(1))?;
-        }
+    for (train, sections) in question.roster.trains().iter().zip(&sheet.rows) {
+        let row = Row {
+            number: train.number,
+            sections,
+            steps: question.steps,
+        };
+        println!(rt; "{row}")?;
     }
     Ok(())
 }
 
-fn plan_by_steps<R: Rule>(
+fn plan<S: InWords, R: Rule>(
     rt: &HostRuntime,
     name: &str,
-    rule: &R,
     walk: &mut Walk,
-    question: &Question,
+    asked: &Asked<R, S>,
 ) -> io::Result<()> {
+    println!(rt; "{name}, {}", S::ORDER)?;
     let mut sheet = Sheet { rows: [[0; 17]; 8] };
-    let mut cells: [Option<u16>; 1] = [None];
-    println!(rt; "{name}, by steps")?;
-    match walk.search(rule, &Steps, question, &mut cells, &mut sheet) {
-        Answer::BeyondReach => println!(rt; "  the group is beyond reach"),
-        Answer::NoSheet => println!(rt; "  there is no lawful sheet"),
-        Answer::Found(cost) => {
-            show_sheet(rt, question, &sheet)?;
-            println!(rt; "  cost {cost} steps")
+    match walk.search(asked, &mut [None], &mut sheet) {
+        Err(Unplanned::BeyondReach) => println!(rt; "  the group is beyond reach"),
+        Err(Unplanned::NoSheet) => println!(rt; "  there is no lawful sheet"),
+        Ok(cost) => {
+            show_sheet(rt, asked.question, &sheet)?;
+            print!(rt; "  cost ")?;
+            asked.scale.say(rt, cost)?;
+            println!(rt; "")
         }
     }
 }
 
-fn plan_by_points<R: Rule>(
+// Plans under a rule, by each scale.
+fn plan_under<R: Rule>(
     rt: &HostRuntime,
     name: &str,
     rule: &R,
     walk: &mut Walk,
     question: &Question,
 ) -> io::Result<()> {
-    let mut sheet = Sheet { rows: [[0; 17]; 8] };
-    let mut cells: [Option<Pair>; 1] = [None];
-    println!(rt; "{name}, by steps, then points")?;
-    match walk.search(rule, &StepsThenPoints, question, &mut cells, &mut sheet) {
-        Answer::BeyondReach => println!(rt; "  the group is beyond reach"),
-        Answer::NoSheet => println!(rt; "  there is no lawful sheet"),
-        Answer::Found(cost) => {
-            let steps = cost.steps;
-            let points = cost.points;
-            show_sheet(rt, question, &sheet)?;
-            println!(rt; "  cost {steps} steps over {points} points")
-        }
-    }
+    let by_steps = Asked {
+        rule,
+        scale: &Steps,
+        question,
+    };
+    let by_points = Asked {
+        rule,
+        scale: &StepsThenPoints,
+        question,
+    };
+    plan(rt, name, walk, &by_steps)?;
+    plan(rt, name, walk, &by_points)
 }
 
 fn plan_all(rt: &HostRuntime, walk: &mut Walk, question: &Question) -> io::Result<()> {
     show_question(rt, question)?;
-    plan_by_steps(rt, "following", &Following, walk, question)?;
-    plan_by_points(rt, "following", &Following, walk, question)?;
-    plan_by_steps(rt, "clear section", &ClearSection, walk, question)?;
-    plan_by_points(rt, "clear section", &ClearSection, walk, question)
+    plan_under(rt, "following", &Following, walk, question)?;
+    plan_under(rt, "clear section", &ClearSection, walk, question)
 }
 
 // Two trains, both of them in the group, in so many steps.
@@ -162,13 +166,13 @@ fn plan_two(
     trains: [Train; 2],
     steps: usize,
 ) -> io::Result<()> {
-    let group = [true, true, false, false, false, false, false, false];
-    match Roster::of(layout, &trains) {
-        Err(refusal) => show_refusal(rt, "the roster", refusal),
-        Ok(roster) => match ask(layout, &roster, group, steps) {
-            Err(refusal) => show_refusal(rt, "the question", refusal),
-            Ok(question) => plan_all(rt, walk, &question),
-        },
+    let roster = match Roster::of(layout, &trains) {
+        Ok(roster) => roster,
+        Err(refusal) => return show_refusal(rt, "the roster", refusal),
+    };
+    match ask(layout, &roster, everyone(&roster), steps) {
+        Ok(question) => plan_all(rt, walk, &question),
+        Err(refusal) => show_refusal(rt, "the question", refusal),
     }
 }
 
@@ -178,11 +182,7 @@ fn plan_throat(rt: &HostRuntime, walk: &mut Walk, layout: &Layout) -> io::Result
         start: 0,
         goal: 3,
     };
-    let down = Train {
-        number: 12,
-        start: 0,
-        goal: 7,
-    };
+    let down = Train { goal: 7, ..up };
     let opposing = Train {
         number: 27,
         start: 3,
@@ -204,10 +204,7 @@ fn main(rt: HostRuntime) -> io::Result<()> {
     let layout = drawing.finish();
     show_layout(&rt, &layout)?;
     match Walk::new(2) {
+        Ok(mut walk) => plan_throat(&rt, &mut walk, &layout),
         Err(refusal) => show_refusal(&rt, "the walk", refusal),
-        Ok(walk) => {
-            let mut walk = walk;
-            plan_throat(&rt, &mut walk, &layout)
-        }
     }
 }

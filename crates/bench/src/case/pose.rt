@@ -1,0 +1,55 @@
+use crate::case::Case;
+use roster::roster::Roster;
+use roster::train::Train;
+use track::drawing::Drawing;
+use track::layout::Layout;
+use track::refusal::Refusal;
+
+impl Case {
+    pub fn sections(&self) -> usize {
+        usize::from(self.half) * 2
+    }
+
+    // The number of cells that the table needs: sections to the power of the trains, for each time.
+    pub fn cells(&self) -> usize {
+        self.sections()
+            .saturating_pow(self.trains as u32)
+            .saturating_mul(self.steps.saturating_add(1))
+    }
+
+    pub fn layout(&self) -> Result<Layout, Refusal> {
+        let half = self.half;
+        let mut drawing = Drawing::new();
+        drawing.add_sections(half.saturating_mul(2))?;
+        for i in 1..half {
+            drawing.add_link(i - 1, i, 0)?;
+            drawing.add_link(half.saturating_add(i - 1), half.saturating_add(i), 0)?;
+            if i % 3 == 1 && i + 1 < half {
+                drawing.add_link(i, half.saturating_add(i + 1), 2)?;
+            }
+        }
+        Ok(drawing.finish())
+    }
+
+    pub fn roster(&self, layout: &Layout) -> Result<Roster, Refusal> {
+        let Case { half, far, .. } = *self;
+        let all = [
+            Train {
+                number: 1,
+                start: 0,
+                goal: far,
+            },
+            Train {
+                number: 2,
+                start: far,
+                goal: 0,
+            },
+            Train {
+                number: 3,
+                start: half,
+                goal: half.saturating_add(far),
+            },
+        ];
+        Roster::of(layout, &all[..self.trains])
+    }
+}

@@ -1,0 +1,28 @@
+use scales::pair::Pair;
+use scales::scale::Scale;
+use scales::steps::Steps;
+use scales::steps_then_points::StepsThenPoints;
+use std::io;
+
+// A scale that says in words by what it orders sheets, and what a sheet costs.
+pub trait InWords: Scale {
+    const ORDER: &'static str;
+
+    fn say(&self, rt: &HostRuntime, cost: Self::Cost) -> io::Result<()>;
+}
+
+impl InWords for Steps {
+    const ORDER: &'static str = "by steps";
+
+    fn say(&self, rt: &HostRuntime, cost: u16) -> io::Result<()> {
+        print!(rt; "{cost} steps")
+    }
+}
+
+impl InWords for StepsThenPoints {
+    const ORDER: &'static str = "by steps, then points";
+
+    fn say(&self, rt: &HostRuntime, cost: Pair) -> io::Result<()> {
+        print!(rt; "{cost}")
+    }
+}
