@@ -13,7 +13,11 @@ pub struct Answers;
 
 fn show_sheet(rt: &HostRuntime, question: &Question, sheet: &Sheet) -> anyhow::Result<()> {
     for sections in &sheet.rows[..question.roster.count()] {
-        println!(rt; "   {}", Places(&sections[..=question.steps]))?;
+        let places = Places {
+            sections,
+            steps: question.steps,
+        };
+        println!(rt; "   {places}")?;
     }
     Ok(())
 }
