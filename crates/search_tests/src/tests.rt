@@ -51,6 +51,7 @@ fn row(sections: &[u8]) -> [u8; 17]
     all
 }
 
+// The tests of the layers draw theirs alike: one for both would be a public function of a library, which owes a contract and edits.
 fn ring() -> Result<Layout, Refusal> {
     let mut drawing = Drawing::new();
     drawing.add_sections(5)?;

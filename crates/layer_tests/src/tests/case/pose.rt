@@ -8,6 +8,7 @@ use track::layout::Layout;
 use track::refusal::Refusal;
 
 impl Case<'_> {
+    // The tests of the searches draw theirs alike: one for both would be a public function of a library, which owes a contract and edits.
     fn layout(&self) -> Result<Layout, Refusal> {
         let mut drawing = Drawing::new();
         drawing.add_sections(self.sections)?;
