@@ -7,5 +7,6 @@ pub fn numbers_of_the_book() -> u8
     ensures the_book_has_no_other_numbers { TheBookHasNoOtherNumbers }
     ensures a_list_of_calls_meets_every_refusal_of_the_book_once { TheseCallsMeetEveryRefusalOnce }
 {
+    // the book stands in the proofs alone, so the program has no list to count
     14
 }

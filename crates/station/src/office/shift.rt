@@ -3,6 +3,7 @@ use crate::office::Office;
 use planner::order::Order;
 use std::io;
 
+// The calls stand one after the other: an order may hold a note, and so no array of them can be let go where a call fails.
 impl<S: InWords> Office<'_, S, S::Cost> {
     fn morning(&mut self) -> io::Result<()> {
         self.make(Order::Plan(4))?;
