@@ -10,41 +10,45 @@ use Rattle.words.specs.Tasks.{begin}
 use Rattle.words.specs.Rests.{On}
 use Rattle.words.proofs.Least.{firstly}
 use Rattle.words.proofs.BestWords.{choice_some}
-use Rattle.table.specs.Steps.{todo, move_cost, Picked, Can, Stepped}
+use Rattle.table.specs.Steps.{todo, joint, move_cost, Picked, Can, Stepped}
+use Rattle.table.specs.Turns.{after}
+use Rattle.table.specs.declared.turn.Turn.{Turn}
 use Rattle.table.specs.declared.pick.Pick.{Pick}
 use Rattle.words.proofs.Turns.{turned_part}
 
 some_is : {C : Type 0} (o : Option C) (d : C) → o ≡ Some d → is_some o ≡ true
 some_is o d e = ap is_some e
 
--- the trains before j have moved to `to`, and the best word goes on from there
-pub record Stepping {C : Type 0} (S : Measure C) (K : Task) (left : ℕ) (at : List ℕ) (j : ℕ) (to : List ℕ) : Type 0 where
-  pub long : length to ≡ 8
-  pub inside : On K j to
-  pub can : is_some (rest S (process S K) (todo K left j) (turned K.trains (take K.trains at) (take j to))) ≡ true
-  pub word : take j to ++ best S (process S K) (todo K left j) (turned K.trains (take K.trains at) (take j to)) ≡ best S (process S K) (K.trains * (left + 1)) (begin K at)
+-- so many trains of a step have moved, and the best word goes on from there
+pub record Stepping {C : Type 0} (S : Measure C) (K : Task) (left : ℕ) (at : List ℕ) (moved : ℕ) (t : Turn) : Type 0 where
+  pub of_the_step : (t.left ≡ left) × (t.at ≡ at)
+  pub so_many : t.moved ≡ moved
+  pub long : length t.to ≡ 8
+  pub inside : On K t.moved t.to
+  pub can : is_some (rest S (process S K) (todo K t.left t.moved) (joint K t)) ≡ true
+  pub word : take t.moved t.to ++ best S (process S K) (todo K t.left t.moved) (joint K t) ≡ best S (process S K) (K.trains * (left + 1)) (begin K at)
 
 module _ {C : Type 0} (S : Measure C) (L : MeasureLaws S) (K : Task) (left : ℕ) (at : List ℕ) (k1 : 1 ≤ K.trains) (k8 : K.trains ≤ 8) where
-  module _ (j : ℕ) (to : List ℕ) (jk : j < K.trains) (W : Stepping S K left at j to) where
+  module _ (moved : ℕ) (t : Turn) (jk : moved < K.trains) (W : Stepping S K left at moved t) where
     abbrev here : Joint
-    here = record { at = take K.trains at; to = take j to }
+    here = record { at = take K.trains t.at; to = take t.moved t.to }
 
     abbrev row : ℕ → Option C
-    row = move_cost S K left j at to
+    row = move_cost S K t
 
     abbrev x : ℕ
     x = first S K.sections row
 
     abbrev next : Joint
-    next = turned K.trains (take K.trains at) (take j to ++ (x ∷ []))
+    next = turned K.trains (take K.trains t.at) (take t.moved t.to ++ (x ∷ []))
 
     abbrev more : ℕ
-    more = todo K left (j + 1)
+    more = todo K t.left (t.moved + 1)
 
-    part : turned K.trains (take K.trains at) (take j to) ≡ here
-    part = let l : length (take j to) ≡ j = length-take-le j to (omega (arith, W.long)) in turned_part K.trains _ _ (omega arith)
+    part : turned K.trains (take K.trains t.at) (take t.moved t.to) ≡ here
+    part = let l : length (take t.moved t.to) ≡ t.moved = length-take-le t.moved t.to (omega (arith, W.long, W.so_many)) in turned_part K.trains _ _ (omega arith)
 
-    todo_is : todo K left j ≡ suc more
+    todo_is : todo K t.left t.moved ≡ suc more
     todo_is = omega arith
 
     can_here : is_some (least S K.sections row) ≡ true
@@ -66,19 +70,21 @@ module _ {C : Type 0} (S : Measure C) (L : MeasureLaws S) (K : Task) (left : ℕ
     unfolding best process
     word_here = refl
 
-    pub step_more : (p : Pick C) → Picked S K left j at to (Some p) → Stepping S K left at (j + 1) (set to j p.section)
+    pub step_more : (p : Pick C) → Picked S K t (Some p) → Stepping S K left at (moved + 1) (after t p.section)
     step_more p P =
         let e : p.section ≡ x = P.goes in
-        let q : take (j + 1) (set to j p.section) ≡ take j to ++ (x ∷ []) =
-        ap (λ n. take n (set to j p.section)) (add-one j) ∙ take-suc-set to j p.section (omega (arith, W.long)) ∙ ap (λ y. take j to ++ (y ∷ [])) e in
+        let q : take (t.moved + 1) (set t.to t.moved p.section) ≡ take t.moved t.to ++ (x ∷ []) =
+        ap (λ n. take n (set t.to t.moved p.section)) (add-one t.moved) ∙ take-suc-set t.to t.moved p.section (omega (arith, W.long, W.so_many)) ∙ ap (λ y. take t.moved t.to ++ (y ∷ [])) e in
         record {
-          long = length-set to j p.section ∙ W.long;
-          inside = λ i h. ⊎_elim (λ l. let ne : i ≢ j = (λ z. omega arith) in subst (λ z. z < K.sections) (sym (get_or-set_other to j i p.section 0 ne)) (W.inside i l))
-              (λ l. let z : j ≡ i = omega arith in subst (λ y. get_or (set to j p.section) y 0 < K.sections) z (subst (λ y. y < K.sections) (sym (get_or-set_same to j p.section 0 (omega (arith, W.long)) ∙ e)) firsts.0)) (cases_lt i j);
-          can = ap (λ w. is_some (rest S (process S K) more (turned K.trains (take K.trains at) w))) q ∙ can_next;
-          word = ap (λ w. w ++ best S (process S K) more (turned K.trains (take K.trains at) w)) q
-              ∙ append_snoc (take j to) x (best S (process S K) more next)
-              ∙ ap (λ w. take j to ++ w) (sym (ap₂ (λ n u. best S (process S K) n u) todo_is part ∙ word_here))
+          of_the_step = W.of_the_step;
+          so_many = ap (λ n. n + 1) W.so_many;
+          long = length-set t.to t.moved p.section ∙ W.long;
+          inside = λ i h. ⊎_elim (λ l. let ne : i ≢ t.moved = (λ z. omega arith) in subst (λ z. z < K.sections) (sym (get_or-set_other t.to t.moved i p.section 0 ne)) (W.inside i l))
+              (λ l. let z : t.moved ≡ i = omega arith in subst (λ y. get_or (set t.to t.moved p.section) y 0 < K.sections) z (subst (λ y. y < K.sections) (sym (get_or-set_same t.to t.moved p.section 0 (omega (arith, W.long, W.so_many)) ∙ e)) firsts.0)) (cases_lt i t.moved);
+          can = ap (λ w. is_some (rest S (process S K) more (turned K.trains (take K.trains t.at) w))) q ∙ can_next;
+          word = ap (λ w. w ++ best S (process S K) more (turned K.trains (take K.trains t.at) w)) q
+              ∙ append_snoc (take t.moved t.to) x (best S (process S K) more next)
+              ∙ ap (λ w. take t.moved t.to ++ w) (sym (ap₂ (λ n u. best S (process S K) n u) todo_is part ∙ word_here))
               ∙ W.word;
         }
 

@@ -4,12 +4,13 @@ use Rattle.std.proofs.lemmas.Bool.{cases_lt}
 use Rattle.std.proofs.lemmas.List.{get_or-take, get_or_append_left, get_or-append-add}
 use Rattle.scales.specs.Measure.{Measure}
 use Rattle.words.specs.Words.{rest}
-use Rattle.words.specs.Joint.{Task, turned, home, process}
+use Rattle.words.specs.Joint.{Task, home, process}
 use Rattle.words.specs.Rests.{Knows}
 use Rattle.words.proofs.Turns.{turned_part}
 use Rattle.table.specs.Codes.{digits, code_of}
 use Rattle.table.specs.Columns.{due, Column, Columns, Numbers, Within, cell_at}
-use Rattle.table.specs.Steps.{todo, Ready}
+use Rattle.table.specs.Steps.{todo, joint, Ready}
+use Rattle.table.specs.Turns.{begun}
 use Rattle.table.specs.declared.filled.Filled.{Filled}
 use Rattle.table.specs.declared.positions.Positions.{Positions}
 use Rattle.table.proofs.Numbers.{base_some, code_below, code_digits, on_digits}
@@ -41,7 +42,7 @@ module _ {C : Type 0} (S : Measure C) (K : Task) (size : ℕ) where
 module _ {C : Type 0} (S : Measure C) (K : Task) where
   -- the rest from where no train has moved is what is due
   pub due_next : (left i : ℕ) (at : List ℕ) → 1 ≤ K.trains → take K.trains at ≡ digits K.sections K.trains i
-      → rest S (process S K) (todo K left 0) (turned K.trains (take K.trains at) []) ≡ due S K (left + 1) i
+      → rest S (process S K) (todo K left 0) (joint K (begun left at)) ≡ due S K (left + 1) i
   due_next left i at k e =
       let a = mul-add K.trains left 1 in
       let m : todo K left 0 ≡ K.trains * (left + 1) = omega arith in
@@ -77,8 +78,8 @@ filled_knows S K f most N room H = record {
     size_self : f.positions.now.count ≤ f.positions.now.count
     size_self = omega arith
 
-pub ready_start : (K : Task) (p : Positions) (code : ℕ) (at to : List ℕ) → Numbers K p → code < p.count → take K.trains at ≡ digits K.sections K.trains code → Ready K 0 at to
-ready_start K p code at to N h e = record {
+pub ready_start : (K : Task) (p : Positions) (left code : ℕ) (at : List ℕ) → Numbers K p → code < p.count → take K.trains at ≡ digits K.sections K.trains code → Ready K (begun left at)
+ready_start K p left code at N h e = record {
   in_group = omega arith;
   at_inside = λ i l. on_digits K.sections K.trains code at (base_some K.sections K.trains p.count code (p.all ∙ ap₂ (λ n k. n ^ k) N.sections N.trains) h (omega arith)) e i l;
   to_inside = λ i l. absurd (omega arith);

@@ -2,34 +2,39 @@
 use Rattle.std.specs.Prelude.{◌≡◌, ℕ, ◌+◌, ◌-◌, ◌*◌, ◌≤◌, true, List, ◌++◌, take, is_some, Some, None, Option, option_map}
 use Rattle.scales.specs.Measure.{Measure}
 use Rattle.words.specs.Words.{rest, best, first, choice}
-use Rattle.words.specs.Joint.{Task, turned, process}
+use Rattle.words.specs.Joint.{Task, Joint, turned, process}
 use Rattle.words.specs.Tasks.{begin}
 use Rattle.words.specs.Rests.{On}
 use Rattle.table.specs.declared.pick.Pick.{Pick}
+use Rattle.table.specs.declared.turn.Turn.{Turn}
 
 -- the moves to come: the trains from j on have yet to move in this step, and `left` steps come after it
 abbrev pub todo : Task → (left j : ℕ) → ℕ
 todo K left j = (K.trains - j) + K.trains * left
 
--- what the move of the train j to a section costs, with all that is still to come
-abbrev pub move_cost : {C : Type 0} → Measure C → Task → (left j : ℕ) (at to : List ℕ) → ℕ → Option C
-move_cost S K left j at to = choice S (process S K) (todo K left (j + 1)) (record { at = take K.trains at; to = take j to })
+-- where the trains of the task stood, and where those have gone that moved
+abbrev pub joint : Task → Turn → Joint
+joint K t = turned K.trains (take K.trains t.at) (take t.moved t.to)
+
+-- what the move of the next train to a section costs, with all that is still to come
+abbrev pub move_cost : {C : Type 0} → Measure C → Task → Turn → ℕ → Option C
+move_cost S K t = choice S (process S K) (todo K t.left (t.moved + 1)) (record { at = take K.trains t.at; to = take t.moved t.to })
 
 -- the section of the move, if there is one
 abbrev pub MovesTo : {C : Type 0} → Option (Pick C) → ℕ → Type 0
 MovesTo None x = Unit {0}
 MovesTo (Some p) x = p.section ≡ x
 
--- the search of a step may begin at the train j
-pub record Ready (K : Task) (j : ℕ) (at to : List ℕ) : Type 0 where
-  pub in_group : j ≤ K.trains
-  pub at_inside : On K K.trains at
-  pub to_inside : On K j to
+-- the search of a step may go on from here
+pub record Ready (K : Task) (t : Turn) : Type 0 where
+  pub in_group : t.moved ≤ K.trains
+  pub at_inside : On K K.trains t.at
+  pub to_inside : On K t.moved t.to
 
--- the least cost of the rest of the step and of all the steps after it; and the first move of the train j that makes it up
-pub record Picked {C : Type 0} (S : Measure C) (K : Task) (left j : ℕ) (at to : List ℕ) (r : Option (Pick C)) : Type 0 where
-  pub cost : option_map (λ p. p.cost) r ≡ rest S (process S K) (todo K left j) (turned K.trains (take K.trains at) (take j to))
-  pub goes : MovesTo r (first S K.sections (move_cost S K left j at to))
+-- the least cost of the rest of the step and of all the steps after it; and the first move of the next train that makes it up
+pub record Picked {C : Type 0} (S : Measure C) (K : Task) (t : Turn) (r : Option (Pick C)) : Type 0 where
+  pub cost : option_map (λ p. p.cost) r ≡ rest S (process S K) (todo K t.left t.moved) (joint K t)
+  pub goes : MovesTo r (first S K.sections (move_cost S K t))
 
 -- there is a way to go on for so many steps
 abbrev pub Can : {C : Type 0} → Measure C → Task → (steps : ℕ) → List ℕ → Type 0

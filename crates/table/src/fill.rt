@@ -5,6 +5,7 @@ ghost use Rattle.table.specs.Columns.{due, Column, Columns, Numbers};
 use crate::filled::Filled;
 use crate::positions::Positions;
 use crate::step::least_rest;
+use crate::turn::Turn;
 use rules::rule::Rule;
 use scales::scale::Scale;
 use words::board::Board;
@@ -40,7 +41,7 @@ fn fill_next<S: Scale, R: Rule>(
 {
     for (code, cell) in column.iter_mut().enumerate() {
         let at = filled.positions.decode(code);
-        *cell = least_rest(board, filled, left, at, [0; 8], 0);
+        *cell = least_rest(board, filled, Turn::begin(left, at));
     }
 }
 

@@ -13,3 +13,4 @@ pub mod read;
 pub mod step;
 pub mod table;
 pub mod tries;
+pub mod turn;

@@ -1,87 +1,78 @@
-ghost use Rattle.std.specs.Prelude.{◌≡◌, ◌+◌, ◌<◌, ◌≤◌, take};
-ghost use Rattle.words.specs.Joint.{process, turned};
+ghost use Rattle.std.specs.Prelude.{◌≡◌, ◌+◌, ◌<◌};
+ghost use Rattle.words.specs.Joint.{process};
 ghost use Rattle.words.specs.Rests.{On, Knows};
 ghost use Rattle.words.specs.Tasks.{task};
 ghost use Rattle.words.specs.Words.{rest};
-ghost use Rattle.table.specs.Steps.{todo, move_cost, Ready, Picked, Can, Stepped};
+ghost use Rattle.table.specs.Steps.{todo, joint, move_cost, Ready, Picked, Can, Stepped};
 
 use crate::candidates::candidates;
 use crate::pick::Pick;
+use crate::turn::Turn;
 use rules::rule::Rule;
 use scales::least::first_least;
 use scales::scale::Scale;
 use words::board::Board;
 use words::rests::Rests;
 
-// The least cost of the rest of a step where the trains before j have moved already, and of all that is still to come.
+// The least cost of the rest of a step from here on, and of all that is still to come.
 #[cycle(step)]
 pub(crate) fn least_rest<S: Scale, R: Rule, N: Rests<S::Cost>>(
     board: &Board<S, R>,
     rests: &N,
-    left: usize,
-    at: [u8; 8],
-    to: [u8; 8],
-    j: usize,
+    turn: Turn,
 ) -> Option<S::Cost>
-    requires ready { Ready (task R.Rule.conflicts board.now) j at to }
-    requires knows { Knows (S.Scale.measure board.now.scale.now) (task R.Rule.conflicts board.now) left (N.Rests.asked rests.now) (N.Rests.known rests.now) }
-    ensures the_least_cost_of_the_rest { result ≡ rest (S.Scale.measure board.now.scale.now) (process (S.Scale.measure board.now.scale.now) (task R.Rule.conflicts board.now)) (todo (task R.Rule.conflicts board.now) left j) (turned board.now.trains (take board.now.trains at) (take j to)) }
+    requires ready { Ready (task R.Rule.conflicts board.now) turn }
+    requires knows { Knows (S.Scale.measure board.now.scale.now) (task R.Rule.conflicts board.now) turn.left (N.Rests.asked rests.now) (N.Rests.known rests.now) }
+    ensures the_least_cost_of_the_rest { result ≡ rest (S.Scale.measure board.now.scale.now) (process (S.Scale.measure board.now.scale.now) (task R.Rule.conflicts board.now)) (todo (task R.Rule.conflicts board.now) turn.left turn.moved) (joint (task R.Rule.conflicts board.now) turn) }
 {
-    if j == board.trains {
-        return rests.rest(left, to);
+    if turn.moved == board.trains {
+        return rests.rest(turn.left, turn.to);
     }
-    best_move(board, rests, left, at, to, j).map(|pick| pick.cost)
+    best_move(board, rests, turn).map(|pick| pick.cost)
 }
 
-// What the move of the train j to x costs with all that is still to come, if it may be made.
+// What the move of the next train to x costs with all that is still to come, if it may be made.
 #[cycle(step)]
 fn move_cost<S: Scale, R: Rule, N: Rests<S::Cost>>(
     board: &Board<S, R>,
     rests: &N,
-    left: usize,
-    at: [u8; 8],
-    to: [u8; 8],
-    j: usize,
+    turn: Turn,
     x: u8,
 ) -> Option<S::Cost>
-    requires ready { Ready (task R.Rule.conflicts board.now) j at to }
-    requires yet_to_move { j < board.now.trains }
+    requires ready { Ready (task R.Rule.conflicts board.now) turn }
+    requires yet_to_move { turn.moved < board.now.trains }
     requires inside { x < (task R.Rule.conflicts board.now).sections }
-    requires knows { Knows (S.Scale.measure board.now.scale.now) (task R.Rule.conflicts board.now) left (N.Rests.asked rests.now) (N.Rests.known rests.now) }
-    ensures the_price_joined_with_the_rest { result ≡ move_cost (S.Scale.measure board.now.scale.now) (task R.Rule.conflicts board.now) left j at to x }
+    requires knows { Knows (S.Scale.measure board.now.scale.now) (task R.Rule.conflicts board.now) turn.left (N.Rests.asked rests.now) (N.Rests.known rests.now) }
+    ensures the_price_joined_with_the_rest { result ≡ move_cost (S.Scale.measure board.now.scale.now) (task R.Rule.conflicts board.now) turn x }
 {
-    if !board.may_move(at, to, j, x) {
+    if !board.may_move(turn.at, turn.to, turn.moved, x) {
         return None;
     }
-    let mut next = to;
-    next[j] = x;
-    let rest = least_rest(board, rests, left, at, next, j + 1)?;
-    Some(board.scale.join(board.move_price(at, j, x), rest))
+    let rest = least_rest(board, rests, turn.after(x))?;
+    let price = board.move_price(turn.at, turn.moved, x);
+    Some(board.scale.join(price, rest))
 }
 
-// The best move of the train j where the trains before it have moved already: the least of its price and of what is still to come,
+// The best move of the next train: the least of its price and of what is still to come,
 // and the lowest section that makes it up.
 #[cycle(step)]
 pub(crate) fn best_move<S: Scale, R: Rule, N: Rests<S::Cost>>(
     board: &Board<S, R>,
     rests: &N,
-    left: usize,
-    at: [u8; 8],
-    to: [u8; 8],
-    j: usize,
+    turn: Turn,
 ) -> Option<Pick<S::Cost>>
-    requires ready { Ready (task R.Rule.conflicts board.now) j at to }
-    requires yet_to_move { j < board.now.trains }
-    requires knows { Knows (S.Scale.measure board.now.scale.now) (task R.Rule.conflicts board.now) left (N.Rests.asked rests.now) (N.Rests.known rests.now) }
-    ensures the_least_and_the_first_that_makes_it_up { Picked (S.Scale.measure board.now.scale.now) (task R.Rule.conflicts board.now) left j at to result }
+    requires ready { Ready (task R.Rule.conflicts board.now) turn }
+    requires yet_to_move { turn.moved < board.now.trains }
+    requires knows { Knows (S.Scale.measure board.now.scale.now) (task R.Rule.conflicts board.now) turn.left (N.Rests.asked rests.now) (N.Rests.known rests.now) }
+    ensures the_least_and_the_first_that_makes_it_up { Picked (S.Scale.measure board.now.scale.now) (task R.Rule.conflicts board.now) turn result }
 {
-    let tries = candidates(board.layout, at[j]);
+    let tries = candidates(board.layout, turn.at[turn.moved]);
     let sections = tries.sections();
     // room for every try, so that no memory is asked for; a cell is written by its place,
     // since after a loop over a zip with `iter_mut` a proof knows no cell that it wrote
     let mut run = [None; 33];
     for (i, x) in sections.iter().enumerate() {
-        run[i] = move_cost(board, rests, left, at, to, j, *x);
+        run[i] = move_cost(board, rests, turn, *x);
     }
     let (place, cost) = first_least(board.scale, &run[..sections.len()])?;
     Some(Pick {
@@ -103,11 +94,10 @@ pub(crate) fn joint_step<S: Scale, R: Rule, N: Rests<S::Cost>>(
     requires can { Can (S.Scale.measure board.now.scale.now) (task R.Rule.conflicts board.now) (left + 1) at }
     ensures the_best_word_goes_on_from_there { Stepped (S.Scale.measure board.now.scale.now) (task R.Rule.conflicts board.now) left at result }
 {
-    let mut to = [0; 8];
-    // by the number of the train, which the search is told
-    for j in 0..board.trains {
-        let pick = best_move(board, rests, left, at, to, j).unwrap();
-        to[j] = pick.section;
+    let mut turn = Turn::begin(left, at);
+    for _ in 0..board.trains {
+        let pick = best_move(board, rests, turn).unwrap();
+        turn = turn.after(pick.section);
     }
-    to
+    turn.to
 }
