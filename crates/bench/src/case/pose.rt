@@ -6,18 +6,18 @@ use track::layout::Layout;
 use track::refusal::Refusal;
 
 impl Case {
-    pub fn sections(&self) -> usize {
+    pub(crate) fn sections(&self) -> usize {
         usize::from(self.half) * 2
     }
 
     // The number of cells that the table needs: sections to the power of the trains, for each time.
-    pub fn cells(&self) -> usize {
+    pub(crate) fn cells(&self) -> usize {
         self.sections()
             .saturating_pow(self.trains as u32)
             .saturating_mul(self.steps.saturating_add(1))
     }
 
-    pub fn layout(&self) -> Result<Layout, Refusal> {
+    pub(crate) fn layout(&self) -> Result<Layout, Refusal> {
         let half = self.half;
         let mut drawing = Drawing::new();
         drawing.add_sections(half.saturating_mul(2))?;
@@ -31,7 +31,7 @@ impl Case {
         Ok(drawing.finish())
     }
 
-    pub fn roster(&self, layout: &Layout) -> Result<Roster, Refusal> {
+    pub(crate) fn roster(&self, layout: &Layout) -> Result<Roster, Refusal> {
         let Case { half, far, .. } = *self;
         let all = [
             Train {

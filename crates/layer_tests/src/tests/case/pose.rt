@@ -19,7 +19,7 @@ impl Case<'_> {
     }
 
     // What is told of the question of all trains.
-    pub fn told<T, F: FnOnce(&Question) -> T>(&self, tell: F) -> Result<T, Refusal>
+    pub(crate) fn told<T, F: FnOnce(&Question) -> T>(&self, tell: F) -> Result<T, Refusal>
         requires { F.IsAlwaysCallable tell }
     {
         let layout = self.layout()?;
