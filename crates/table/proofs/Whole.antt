@@ -1,6 +1,8 @@
 -- From a question and its chosen rows to a worksheet that can be filled, and a start that it can be read off from.
 use Rattle.std.proofs.Common.{◌≡◌, ℕ, ◌+◌, ◌*◌, ◌^◌, ◌≤◌, sym, subst, mul_comm, mul-le-mul, mul-add, arith}
+use Rattle.track.specs.Layouts.{sections_of}
 use Rattle.track.specs.declared.layout.Layout.{Layout}
+use Rattle.track.proofs.Laws.{sections_most}
 use Rattle.roster.specs.Model.{rows_of}
 use Rattle.rules.specs.Conflicts.{Conflicts}
 use Rattle.sheets.specs.declared.asked.Asked.{Asked}
@@ -18,9 +20,9 @@ pub starts : {S R : Type 0} (conflicts : R → Layout → Conflicts) (a : Asked 
 starts conflicts a c b H B i h = rw (B.layout, B.start, H.starts i (omega (arith, B.trains))) ((posed_of (conflicts a.rule.now a.question.now.layout.now) a.question.now).start_inside (row_of c i) (H.below i (omega (arith, B.trains))))
 
 -- the number of cells that are used is far below the largest number
-pub cells_fit : (p : Positions) (steps : ℕ) → steps ≤ 16 → p.count * (steps + 1) ≤ 2 ^ 40 * 17
+pub cells_fit : {A B : Type 0} (p : Positions A B) (steps : ℕ) → steps ≤ 16 → p.count * (steps + 1) ≤ 2 ^ 40 * 17
 cells_fit p steps h =
-    let a : p.count ≤ 2 ^ 40 = subst (λ z. z ≤ 2 ^ 40) (sym p.all) (power_size p.sections p.trains p.narrow p.few) in
+    let a : p.count ≤ 2 ^ 40 = subst (λ z. z ≤ 2 ^ 40) (sym p.all) (power_size (sections_of p.board.now.layout.now) p.board.now.trains (sections_most p.board.now.layout.now) p.board.now.few) in
     let b : steps + 1 ≤ 17 = omega arith in
     mul-le-mul a b
 

@@ -1,14 +1,18 @@
 -- The worksheet, column by column.
-use Rattle.std.proofs.Common.{◌≡◌, ℕ, ◌+◌, ◌*◌, ◌^◌, ◌<◌, ◌≤◌, Bool, cond, List, [], ◌++◌, length, get_or, take, Some, None, Option, sym, ap, ◌∙◌, subst, ap₂, ⊎_elim, add-mul, mul-le-mul, mul-zero, mul-add, arith}
+use Rattle.std.proofs.Common.{◌≡◌, ℕ, ◌+◌, ◌*◌, ◌<◌, ◌≤◌, Bool, cond, List, [], ◌++◌, length, get_or, take, Some, None, Option, sym, ap, ◌∙◌, subst, ap₂, ⊎_elim, add-mul, mul-le-mul, mul-zero, mul-add, arith}
 use Rattle.std.proofs.lemmas.Bool.{cases_lt}
 use Rattle.std.proofs.lemmas.List.{get_or-take, get_or_append_left, get_or-append-add}
+use Rattle.track.specs.Layouts.{sections_of}
+use Rattle.track.specs.declared.layout.Layout.{Layout}
+use Rattle.rules.specs.Conflicts.{Conflicts}
 use Rattle.scales.specs.Measure.{Measure}
 use Rattle.words.specs.Words.{rest}
 use Rattle.words.specs.Joint.{Task, home, process}
 use Rattle.words.specs.Rests.{Knows}
+use Rattle.words.specs.Tasks.{task}
 use Rattle.words.proofs.Turns.{turned_part}
 use Rattle.table.specs.Codes.{digits, code_of}
-use Rattle.table.specs.Columns.{due, Column, Columns, Numbers, Within, cell_at}
+use Rattle.table.specs.Columns.{due, Column, Columns, Within, cell_at}
 use Rattle.table.specs.Steps.{todo, joint, Ready}
 use Rattle.table.specs.Turns.{begun}
 use Rattle.table.specs.declared.filled.Filled.{Filled}
@@ -57,30 +61,30 @@ module _ {C : Type 0} (S : Measure C) (K : Task) where
       let f : b ≡ home K (digits K.sections K.trains i) = h ∙ ap (home K) e in
       rw z (ap (λ q. cond q (Some S.nothing) None) f)
 
--- the digits of a number are those of the task
-pub its_digits : (K : Task) (p : Positions) (code : ℕ) (at : List ℕ) → Numbers K p → take p.trains at ≡ digits p.sections p.trains code → take K.trains at ≡ digits K.sections K.trains code
-its_digits K p code at N e = ap (λ k. take k at) (sym N.trains) ∙ e ∙ ap₂ (λ n k. digits n k code) N.sections N.trains
+module _ {A B : Type 0} (conflicts : B → Layout → Conflicts) where
+  -- a worksheet that is filled knows the costs of the rest
+  pub filled_knows : {C : Type 0} (S : Measure C) (f : Filled A B C) (most : ℕ) → most * f.positions.now.count + f.positions.now.count ≤ length f.cells.now
+      → Columns S (task conflicts f.positions.now.board.now) most f.positions.now.count f.cells.now → Knows S (task conflicts f.positions.now.board.now) most (Within f) (cell_at f)
+  filled_knows S f most room H = record {
+    may_be_asked = λ left at h l o. record {
+      room = (let m : left * f.positions.now.count ≤ most * f.positions.now.count = mul-le-mul h size_self in omega arith);
+      inside = o;
+    };
+    least_of_the_rest = λ left at h l o.
+        H left (code_of K.sections K.trains at) h (subst (λ z. code_of K.sections K.trains at < z) (sym f.positions.now.all) (code_below K.sections at K.trains o))
+        ∙ ap (λ w. rest S (process S K) (K.trains * left) (record { at = w; to = [] })) (code_digits K.sections at K.trains l o);
+  }
+    where
+      K : Task
+      K = task conflicts f.positions.now.board.now
 
--- a worksheet that is filled knows the costs of the rest
-pub filled_knows : {C : Type 0} (S : Measure C) (K : Task) (f : Filled C) (most : ℕ) → Numbers K f.positions.now
-    → most * f.positions.now.count + f.positions.now.count ≤ length f.cells.now → Columns S K most f.positions.now.count f.cells.now → Knows S K most (Within f) (cell_at f)
-filled_knows S K f most N room H = record {
-  may_be_asked = λ left at h l o. record {
-    room = (let m : left * f.positions.now.count ≤ most * f.positions.now.count = mul-le-mul h size_self in omega arith);
-    inside = λ i z. subst (λ n. get_or at i 0 < n) (sym N.sections) (o i (omega (arith, N.trains)));
-  };
-  least_of_the_rest = λ left at h l o.
-      ap₂ (λ n k. get_or f.cells.now (left * f.positions.now.count + code_of n k at) None) N.sections N.trains
-      ∙ H left (code_of K.sections K.trains at) h (subst (λ z. code_of K.sections K.trains at < z) (sym (f.positions.now.all ∙ ap₂ (λ n k. n ^ k) N.sections N.trains)) (code_below K.sections at K.trains o))
-      ∙ ap (λ w. rest S (process S K) (K.trains * left) (record { at = w; to = [] })) (code_digits K.sections at K.trains l o);
-}
-  where
-    size_self : f.positions.now.count ≤ f.positions.now.count
-    size_self = omega arith
+      size_self : f.positions.now.count ≤ f.positions.now.count
+      size_self = omega arith
 
-pub ready_start : (K : Task) (p : Positions) (left code : ℕ) (at : List ℕ) → Numbers K p → code < p.count → take K.trains at ≡ digits K.sections K.trains code → Ready K (begun left at)
-ready_start K p left code at N h e = record {
-  in_group = omega arith;
-  at_inside = λ i l. on_digits K.sections K.trains code at (base_some K.sections K.trains p.count code (p.all ∙ ap₂ (λ n k. n ^ k) N.sections N.trains) h (omega arith)) e i l;
-  to_inside = λ i l. absurd (omega arith);
-}
+  pub ready_start : (p : Positions A B) (left code : ℕ) (at : List ℕ) → code < p.count → take p.board.now.trains at ≡ digits (sections_of p.board.now.layout.now) p.board.now.trains code
+      → Ready (task conflicts p.board.now) (begun left at)
+  ready_start p left code at h e = record {
+    in_group = omega arith;
+    at_inside = λ i l. on_digits (sections_of p.board.now.layout.now) p.board.now.trains code at (base_some (sections_of p.board.now.layout.now) p.board.now.trains p.count code p.all h (omega arith)) e i l;
+    to_inside = λ i l. absurd (omega arith);
+  }

@@ -1,12 +1,12 @@
 -- The worksheet, column by column: the column of so many steps left has a cell for each joint position.
 use Rattle.std.specs.Prelude.{◌≡◌, ℕ, ◌+◌, ◌*◌, ◌^◌, ◌<◌, ◌≤◌, List, [], length, None, Option, slice_index, slice_index_or}
+use Rattle.track.specs.Layouts.{sections_of}
 use Rattle.scales.specs.Measure.{Measure}
 use Rattle.sheets.specs.Inquiry.{Inquiry, trains}
 use Rattle.words.specs.Words.{rest}
 use Rattle.words.specs.Joint.{Task, process}
 use Rattle.table.specs.Codes.{digits, code_of}
 use Rattle.table.specs.declared.filled.Filled.{Filled}
-use Rattle.table.specs.declared.positions.Positions.{Positions}
 
 -- the least cost of the rest, for so many steps left and the joint position of a number
 abbrev pub due : {C : Type 0} → Measure C → Task → (left code : ℕ) → Option C
@@ -24,19 +24,14 @@ Columns S K left size cells = (l code : ℕ) → l ≤ left → code < size → 
 abbrev pub KeptFrom : {C : Type 0} → ℕ → List (Option C) → List (Option C) → Type 0
 KeptFrom bound old new = (i : ℕ) → bound ≤ i → slice_index_or new i None ≡ slice_index_or old i None
 
--- the joint positions are those of the task
-pub record Numbers (K : Task) (p : Positions) : Type 0 where
-  pub sections : p.sections ≡ K.sections
-  pub trains : p.trains ≡ K.trains
-
 -- what a filled worksheet may be asked
-pub record Within {C : Type 0} (f : Filled C) (left : ℕ) (at : List ℕ) : Type 0 where
+pub record Within {S R C : Type 0} (f : Filled S R C) (left : ℕ) (at : List ℕ) : Type 0 where
   pub room : left * f.positions.now.count + f.positions.now.count ≤ length f.cells.now
-  pub inside : (i : ℕ) → i < f.positions.now.trains → slice_index at i < f.positions.now.sections
+  pub inside : (i : ℕ) → i < f.positions.now.board.now.trains → slice_index at i < sections_of f.positions.now.board.now.layout.now
 
 -- what it says
-abbrev pub cell_at : {C : Type 0} → Filled C → (left : ℕ) → List ℕ → Option C
-cell_at f left at = slice_index_or f.cells.now (left * f.positions.now.count + code_of f.positions.now.sections f.positions.now.trains at) None
+abbrev pub cell_at : {S R C : Type 0} → Filled S R C → (left : ℕ) → List ℕ → Option C
+cell_at f left at = slice_index_or f.cells.now (left * f.positions.now.count + code_of (sections_of f.positions.now.board.now.layout.now) f.positions.now.board.now.trains at) None
 
 -- a cell for each time and each joint position of the group's trains
 abbrev pub Enough : {C : Type 0} → Inquiry C → ℕ → Type 0

@@ -4,7 +4,7 @@ ghost use Rattle.search.specs.Answers.{Answered};
 ghost use Rattle.sheets.specs.Inquiry.{inquired, trains};
 ghost use Rattle.words.specs.Rests.{On};
 ghost use Rattle.words.specs.Tasks.{task, Solution};
-ghost use Rattle.table.specs.Columns.{Enough, KeptFrom, Numbers};
+ghost use Rattle.table.specs.Columns.{Enough, KeptFrom};
 ghost use Rattle.table.specs.OneTrain.{one_train_lem};
 
 use crate::fill::fill;
@@ -25,17 +25,15 @@ use words::written::answer;
 
 // The first of the least of the group's sheets, by a worksheet with a cell for each time and each joint position.
 fn best_of<S: Scale, R: Rule>(
-    board: &Board<S, R>,
-    positions: &Positions,
+    positions: &Positions<S, R>,
     cells: &mut [Option<S::Cost>],
 ) -> Option<Found<S::Cost>>
-    requires numbers { Numbers (task R.Rule.conflicts board.now) positions.now }
-    requires starts { On (task R.Rule.conflicts board.now) board.now.trains board.now.start }
-    requires room { positions.now.count * (board.now.steps + 1) ≤ length cells.old }
-    ensures the_least_cost_and_the_first_sheet_that_has_it { Solution (S.Scale.measure board.now.scale.now) (task R.Rule.conflicts board.now) board.now.steps board.now.start result }
+    requires starts { On (task R.Rule.conflicts positions.now.board.now) positions.now.board.now.trains positions.now.board.now.start }
+    requires room { positions.now.count * (positions.now.board.now.steps + 1) ≤ length cells.old }
+    ensures the_least_cost_and_the_first_sheet_that_has_it { Solution (S.Scale.measure positions.now.board.now.scale.now) (task R.Rule.conflicts positions.now.board.now) positions.now.board.now.steps positions.now.board.now.start result }
 {
-    fill(board, positions, cells);
-    read_off(board, &Filled { cells, positions })
+    fill(positions, cells);
+    read_off(positions.board, &Filled { cells, positions })
 }
 
 // Asks for the best sheet of the question's group, in the first of the cells.
@@ -54,7 +52,7 @@ pub fn plan<S: Scale, R: Rule>(
     if used > cells.len() {
         return Err(Unplanned::BeyondReach);
     }
-    let found = best_of(&board, &positions, &mut cells[..used]);
+    let found = best_of(&positions, &mut cells[..used]);
     answer(asked, &chosen, found, sheet)
 }
 

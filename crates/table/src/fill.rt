@@ -1,6 +1,6 @@
 ghost use Rattle.std.specs.Prelude.{◌≡◌, ◌+◌, ◌*◌, ◌<◌, ◌≤◌, length};
 ghost use Rattle.words.specs.Tasks.{task};
-ghost use Rattle.table.specs.Columns.{due, Column, Columns, Numbers};
+ghost use Rattle.table.specs.Columns.{due, Column, Columns};
 
 use crate::filled::Filled;
 use crate::positions::Positions;
@@ -8,18 +8,13 @@ use crate::step::least_rest;
 use crate::turn::Turn;
 use rules::rule::Rule;
 use scales::scale::Scale;
-use words::board::Board;
 
 // The column of no steps left: nothing is left to pay at the goals, and there is no way elsewhere.
-fn fill_last<S: Scale, R: Rule>(
-    board: &Board<S, R>,
-    positions: &Positions,
-    column: &mut [Option<S::Cost>],
-)
-    requires numbers { Numbers (task R.Rule.conflicts board.now) positions.now }
+fn fill_last<S: Scale, R: Rule>(positions: &Positions<S, R>, column: &mut [Option<S::Cost>])
     requires a_cell_each { length column.old ≡ positions.now.count }
-    ensures the_column_is_filled { Column (S.Scale.measure board.now.scale.now) (task R.Rule.conflicts board.now) 0 positions.now.count column.new }
+    ensures the_column_is_filled { Column (S.Scale.measure positions.now.board.now.scale.now) (task R.Rule.conflicts positions.now.board.now) 0 positions.now.count column.new }
 {
+    let board = positions.board;
     for (code, cell) in column.iter_mut().enumerate() {
         let at = positions.decode(code);
         *cell = board.all_home(at).then(|| board.scale.nothing());
@@ -28,17 +23,16 @@ fn fill_last<S: Scale, R: Rule>(
 
 // The column of one step more than `left`, by the columns up to that.
 fn fill_next<S: Scale, R: Rule>(
-    board: &Board<S, R>,
-    filled: &Filled<S::Cost>,
+    filled: &Filled<S, R, S::Cost>,
     left: usize,
     column: &mut [Option<S::Cost>],
 )
-    requires numbers { Numbers (task R.Rule.conflicts board.now) filled.now.positions.now }
     requires room { left * filled.now.positions.now.count + filled.now.positions.now.count ≤ length filled.now.cells.now }
-    requires columns { Columns (S.Scale.measure board.now.scale.now) (task R.Rule.conflicts board.now) left filled.now.positions.now.count filled.now.cells.now }
+    requires columns { Columns (S.Scale.measure filled.now.positions.now.board.now.scale.now) (task R.Rule.conflicts filled.now.positions.now.board.now) left filled.now.positions.now.count filled.now.cells.now }
     requires a_cell_each { length column.old ≡ filled.now.positions.now.count }
-    ensures the_column_is_filled { Column (S.Scale.measure board.now.scale.now) (task R.Rule.conflicts board.now) (left + 1) filled.now.positions.now.count column.new }
+    ensures the_column_is_filled { Column (S.Scale.measure filled.now.positions.now.board.now.scale.now) (task R.Rule.conflicts filled.now.positions.now.board.now) (left + 1) filled.now.positions.now.count column.new }
 {
+    let board = filled.positions.board;
     for (code, cell) in column.iter_mut().enumerate() {
         let at = filled.positions.decode(code);
         *cell = least_rest(board, filled, Turn::begin(left, at));
@@ -46,22 +40,17 @@ fn fill_next<S: Scale, R: Rule>(
 }
 
 // Works out the cost still to come, last time first: one cell for each time and each joint position.
-pub(crate) fn fill<S: Scale, R: Rule>(
-    board: &Board<S, R>,
-    positions: &Positions,
-    cells: &mut [Option<S::Cost>],
-)
-    requires numbers { Numbers (task R.Rule.conflicts board.now) positions.now }
-    requires room { board.now.steps * positions.now.count + positions.now.count ≤ length cells.old }
-    ensures every_cell_has_the_least_cost_of_the_rest { Columns (S.Scale.measure board.now.scale.now) (task R.Rule.conflicts board.now) board.now.steps positions.now.count cells.new }
+pub(crate) fn fill<S: Scale, R: Rule>(positions: &Positions<S, R>, cells: &mut [Option<S::Cost>])
+    requires room { positions.now.board.now.steps * positions.now.count + positions.now.count ≤ length cells.old }
+    ensures every_cell_has_the_least_cost_of_the_rest { Columns (S.Scale.measure positions.now.board.now.scale.now) (task R.Rule.conflicts positions.now.board.now) positions.now.board.now.steps positions.now.count cells.new }
 {
-    fill_last(board, positions, &mut cells[..positions.count]);
-    for left in 0..board.steps {
+    fill_last(positions, &mut cells[..positions.count]);
+    for left in 0..positions.board.steps {
         let (done, rest) = cells.split_at_mut((left + 1) * positions.count);
         let filled = Filled {
             cells: done,
             positions,
         };
-        fill_next(board, &filled, left, &mut rest[..positions.count]);
+        fill_next(&filled, left, &mut rest[..positions.count]);
     }
 }

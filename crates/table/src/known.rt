@@ -4,7 +4,7 @@ ghost use Rattle.table.specs.Columns.{Within, cell_at};
 use crate::filled::Filled;
 use words::rests::Rests;
 
-impl<'a, 'b, C: Copy> Rests<C> for Filled<'a, 'b, C> {
+impl<'a, 'b, 'c, S, R, C: Copy> Rests<C> for Filled<'a, 'b, 'c, S, R, C> {
     ghost asked = { Within };
 
     ghost known = { cell_at };

@@ -1,15 +1,17 @@
-ghost use Rattle.std.specs.Prelude.{◌≡◌, ◌^◌, ◌≤◌};
+ghost use Rattle.std.specs.Prelude.{◌≡◌, ◌^◌};
+ghost use Rattle.track.specs.Layouts.{sections_of};
+
+use words::board::Board;
 
 pub mod codes;
 
-// The joint positions of so many trains on so many sections. Each has a number below `count`:
+// The joint positions of a board's trains on its sections. Each has a number below `count`:
 // its sections as digits, the first train's the highest.
 #[derive(Drop)]
-pub(crate) struct Positions {
+pub(crate) struct Positions<'a, S, R> {
+    pub(crate) board: &'a Board<'a, S, R>,
     pub(crate) sections: u8,
-    pub(crate) trains: usize,
     pub(crate) count: usize,
-    ghost narrow: { sections ≤ 32 },
-    ghost few: { trains ≤ 8 },
-    ghost all: { count ≡ sections ^ trains },
+    ghost of_the_layout: { sections ≡ sections_of board.now.layout.now },
+    ghost all: { count ≡ sections_of board.now.layout.now ^ board.now.trains },
 }

@@ -6,4 +6,5 @@ pub overflow_mul-used : goal.overflow_mul-used
 overflow_mul-used g c = omega (arith, cells_fit c.of-positions.result c.of-board.result.steps c.of-board.result.short)
 
 pub best_of-found-requires-clause-starts : goal.best_of-found-requires-clause-starts
-best_of-found-requires-clause-starts g c = starts g.R.Rule.conflicts c.args.asked.now c.choose-chosen.result c.of-board.result c.choose-chosen.ensures.the_rows_of_the_group_in_rising_order c.of-board.ensures.what_is_asked_of_the_group
+best_of-found-requires-clause-starts g c =
+    rw c.of-positions.ensures.of_the_board (starts g.R.Rule.conflicts c.args.asked.now c.choose-chosen.result c.of-board.result c.choose-chosen.ensures.the_rows_of_the_group_in_rising_order c.of-board.ensures.what_is_asked_of_the_group)

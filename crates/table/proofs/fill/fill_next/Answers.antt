@@ -2,24 +2,21 @@ use Rattle.std.proofs.Common.{◌+◌, ◌∙◌, arith}
 use Rattle.std.proofs.lemmas.List.Edits.{fill_by_more}
 use Rattle.words.specs.Tasks.{task}
 use Rattle.table.specs.Columns.{due}
-use Rattle.table.proofs.Worksheets.{its_digits, ready_start, filled_knows, due_next}
+use Rattle.table.proofs.Worksheets.{ready_start, filled_knows, due_next}
 use Rattle.table.proofs.fill.fill_next.Goals as goal
 
 pub least_rest-requires : goal.least_rest-requires
 least_rest-requires g c =
-    let K = task g.R.Rule.conflicts c.args.board.now in
-    let p = c.args.filled.now.positions.now in
-    let d = its_digits K p c.loop-code.code c.decode-at.result c.requires.numbers c.decode-at.ensures.the_digits_of_the_code in
     record {
-      ready = rw c.begin.ensures.no_train_has_moved (ready_start K p c.args.left c.loop-code.code c.decode-at.result c.requires.numbers (omega (arith, c.loop-code-test.true, c.requires.a_cell_each)) d);
-      knows = rw c.begin.ensures.no_train_has_moved (filled_knows _ K c.args.filled.now c.args.left c.requires.numbers c.requires.room c.requires.columns);
+      ready = rw c.begin.ensures.no_train_has_moved (ready_start g.R.Rule.conflicts c.args.filled.now.positions.now c.args.left c.loop-code.code c.decode-at.result (omega (arith, c.loop-code-test.true, c.requires.a_cell_each)) c.decode-at.ensures.the_digits_of_the_code);
+      knows = rw c.begin.ensures.no_train_has_moved (filled_knows g.R.Rule.conflicts _ c.args.filled.now c.args.left c.requires.room c.requires.columns);
     }
 
 pub loop-code-preserved : goal.loop-code-preserved
 loop-code-preserved g c =
-    let S = g.S.Scale.measure c.args.board.now.scale.now in
-    let K = task g.R.Rule.conflicts c.args.board.now in
-    let d = its_digits K c.args.filled.now.positions.now c.loop-code.code c.decode-at.result c.requires.numbers c.decode-at.ensures.the_digits_of_the_code in
+    let S = g.S.Scale.measure c.args.filled.now.positions.now.board.now.scale.now in
+    let K = task g.R.Rule.conflicts c.args.filled.now.positions.now.board.now in
+    let d = c.decode-at.ensures.the_digits_of_the_code in
     let e = rw c.begin.ensures.no_train_has_moved at c.least_rest.ensures.the_least_cost_of_the_rest in
-    rw (e ∙ due_next S K c.args.left c.loop-code.code c.decode-at.result c.args.board.now.some d)
+    rw (e ∙ due_next S K c.args.left c.loop-code.code c.decode-at.result c.args.filled.now.positions.now.board.now.some d)
     (fill_by_more (due S K (c.args.left + 1)) c.loop-code.column c.loop-code.code _ (omega (arith, c.loop-code-test.true, c.loop-code.auto.column)) c.loop-code.invariant)

@@ -1,36 +1,38 @@
 use Rattle.std.proofs.Common.{◌≡◌, ℕ, ◌<◌, ◌≤◌, length, refl, arith, length-take, get_or-take, rules}
+use Rattle.track.specs.Layouts.{sections_of}
+use Rattle.track.proofs.Laws.{sections_most}
 use Rattle.table.specs.Codes.{code_of}
 use Rattle.table.proofs.Numbers.{code_below, code_fits, code_more}
 use Rattle.table.proofs.positions.Positions.code_of.Goals as goal
 
 pub loop-section-init : goal.loop-section-init
 unfolding code_of
-loop-section-init c = refl
+loop-section-init g c = refl
 
 pub overflow_mul-code : goal.overflow_mul-code
-overflow_mul-code c =
-    let h : c.loop-section.section-index < c.args.self.now.trains = omega (arith, length-take {A = ℕ}) in
-    rw (c.from.ensures, c.loop-section.invariant)
-    (omega (arith, code_fits c.args.self.now.sections c.args.at c.loop-section.section-index c.args.self.now.trains c.args.self.now.narrow c.args.self.now.few h c.requires))
+overflow_mul-code g c =
+    let h : c.loop-section.section-index < c.args.self.now.board.now.trains = omega (arith, length-take {A = ℕ}) in
+    rw (c.from.ensures, c.args.self.now.of_the_layout, c.loop-section.invariant)
+    (omega (arith, code_fits (sections_of c.args.self.now.board.now.layout.now) c.args.at c.loop-section.section-index c.args.self.now.board.now.trains (sections_most c.args.self.now.board.now.layout.now) c.args.self.now.board.now.few h c.requires))
 
 pub overflow_add-code : goal.overflow_add-code
-overflow_add-code c =
-    let h : c.loop-section.section-index < c.args.self.now.trains = omega (arith, length-take {A = ℕ}) in
-    rw (c.from.ensures, c.loop-section.invariant, c.from-in-loop-section.ensures, get_or-take c.args.self.now.trains c.args.at c.loop-section.section-index 0 h)
-    (omega (arith, code_fits c.args.self.now.sections c.args.at c.loop-section.section-index c.args.self.now.trains c.args.self.now.narrow c.args.self.now.few h c.requires))
+overflow_add-code g c =
+    let h : c.loop-section.section-index < c.args.self.now.board.now.trains = omega (arith, length-take {A = ℕ}) in
+    rw (c.from.ensures, c.args.self.now.of_the_layout, c.loop-section.invariant, c.from-in-loop-section.ensures, get_or-take c.args.self.now.board.now.trains c.args.at c.loop-section.section-index 0 h)
+    (omega (arith, code_fits (sections_of c.args.self.now.board.now.layout.now) c.args.at c.loop-section.section-index c.args.self.now.board.now.trains (sections_most c.args.self.now.board.now.layout.now) c.args.self.now.board.now.few h c.requires))
 
 pub loop-section-preserved : goal.loop-section-preserved
-loop-section-preserved c =
-    let h : c.loop-section.section-index < c.args.self.now.trains = omega (arith, length-take {A = ℕ}) in
-    rw (c.from.ensures, c.loop-section.invariant, c.from-in-loop-section.ensures, get_or-take c.args.self.now.trains c.args.at c.loop-section.section-index 0 h)
-    (code_more c.args.self.now.sections c.args.at c.loop-section.section-index)
+loop-section-preserved g c =
+    let h : c.loop-section.section-index < c.args.self.now.board.now.trains = omega (arith, length-take {A = ℕ}) in
+    rw (c.from.ensures, c.args.self.now.of_the_layout, c.loop-section.invariant, c.from-in-loop-section.ensures, get_or-take c.args.self.now.board.now.trains c.args.at c.loop-section.section-index 0 h)
+    (code_more (sections_of c.args.self.now.board.now.layout.now) c.args.at c.loop-section.section-index)
 
 pub returns : goal.returns
-returns c =
-    let l : c.args.self.now.trains ≤ length c.args.at = search rules in
-    let e : c.loop-section.section-index ≡ c.args.self.now.trains = omega (arith, length-take {A = ℕ}, c.loop-section-test.false, c.loop-section.auto) in
-    let v : c.loop-section.code ≡ code_of c.args.self.now.sections c.args.self.now.trains c.args.at = rw e at c.loop-section.invariant in
+returns g c =
+    let l : c.args.self.now.board.now.trains ≤ length c.args.at = search rules in
+    let e : c.loop-section.section-index ≡ c.args.self.now.board.now.trains = omega (arith, length-take {A = ℕ}, c.loop-section-test.false, c.loop-section.auto) in
+    let v : c.loop-section.code ≡ code_of (sections_of c.args.self.now.board.now.layout.now) c.args.self.now.board.now.trains c.args.at = rw e at c.loop-section.invariant in
     record {
       the_code_of_the_position = v;
-      one_of_them = omega (arith, v, c.args.self.now.all, code_below c.args.self.now.sections c.args.at c.args.self.now.trains c.requires);
+      one_of_them = omega (arith, v, c.args.self.now.all, code_below (sections_of c.args.self.now.board.now.layout.now) c.args.at c.args.self.now.board.now.trains c.requires);
     }

@@ -1,6 +1,7 @@
 use Rattle.std.proofs.Common.{◌≡◌, ◌++◌, length, take, drop}
+use Rattle.track.specs.Layouts.{sections_of}
 use Rattle.table.specs.Codes.{digits}
 use Rattle.table.proofs.positions.Positions.decode.Given as goal
 
 abbrev pub invariant-loop-i : goal.invariant-loop-i
-invariant-loop-i l = (length l.at ≡ 8) × (digits l.self.sections l.i l.left ++ drop l.i (take l.self.trains l.at) ≡ digits l.self.sections l.self.trains l.code)
+invariant-loop-i g l = (length l.at ≡ 8) × (digits (sections_of l.self.board.now.layout.now) l.i l.left ++ drop l.i (take l.self.board.now.trains l.at) ≡ digits (sections_of l.self.board.now.layout.now) l.self.board.now.trains l.code)
