@@ -10,8 +10,8 @@ use search::answer::{Answer, Unplanned};
 use search::search::Search;
 use sheets::asked::Asked;
 use sheets::sheet::Sheet;
-use words::board::Board;
 use words::choose::choose;
+use words::group::Group;
 use words::written::answer;
 
 impl<S: Scale> Search<S> for Walk {
@@ -30,7 +30,7 @@ impl<S: Scale> Search<S> for Walk {
         if chosen.trains > self.most {
             return Err(Unplanned::BeyondReach);
         }
-        let board = Board::of(asked, &chosen);
-        answer(asked, &chosen, best_of(&board), sheet)
+        let group = Group::of(asked, &chosen);
+        answer(asked, &chosen, best_of(&group), sheet)
     }
 }

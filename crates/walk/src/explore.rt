@@ -5,8 +5,8 @@ ghost use Rattle.walk.specs.Walks.{Ready, Walked, put_at};
 use crate::spot::Spot;
 use rules::rule::Rule;
 use scales::scale::Scale;
-use words::board::Board;
 use words::found::Found;
+use words::group::Group;
 
 // The section x written into the plan that was found.
 fn put<C: Copy>(found: Option<Found<C>>, place: usize, x: u8) -> Option<Found<C>>
@@ -22,33 +22,33 @@ fn put<C: Copy>(found: Option<Found<C>>, place: usize, x: u8) -> Option<Found<C>
 
 // Of the sheets that go on from here, the first of the least, if with what is spent so far it costs less than the bound.
 fn explore<S: Scale, R: Rule>(
-    board: &Board<S, R>,
+    group: &Group<S, R>,
     spot: Spot<S::Cost>,
     bound: Option<S::Cost>,
 ) -> Option<Found<S::Cost>>
-    requires { Ready (S.Scale.measure board.now.scale.now) (task R.Rule.conflicts board.now) spot }
-    ensures the_best_that_stays_below_the_bound { Walked (S.Scale.measure board.now.scale.now) (task R.Rule.conflicts board.now) spot bound result }
+    requires { Ready (S.Scale.measure group.now.board.scale.now) (task R.Rule.conflicts group.now.board) spot }
+    ensures the_best_that_stays_below_the_bound { Walked (S.Scale.measure group.now.board.scale.now) (task R.Rule.conflicts group.now.board) spot bound result }
 {
-    if bound.is_some_and(|b| !board.scale.lower(spot.sofar, b)) {
+    if bound.is_some_and(|b| !group.board.scale.lower(spot.sofar, b)) {
         return None;
     }
-    if spot.moved == board.trains {
+    if spot.moved == group.board.trains {
         if spot.left > 0 {
-            return explore(board, spot.next_step(), bound);
+            return explore(group, spot.next_step(), bound);
         }
         let end = Found {
             cost: spot.sofar,
             plan: [0; 128],
         };
-        return board.all_home(spot.to).then_some(end);
+        return group.board.all_home(spot.to).then_some(end);
     }
     let mut best: Option<Found<S::Cost>> = None;
-    for x in 0..board.layout.sections() {
-        if board.may_move(spot.at, spot.to, spot.moved, x) {
-            let price = board.move_price(spot.at, spot.moved, x);
-            let next = spot.after(x, board.scale.join(spot.sofar, price));
+    for x in 0..group.board.layout.sections() {
+        if group.board.may_move(spot.at, spot.to, spot.moved, x) {
+            let price = group.board.move_price(spot.at, spot.moved, x);
+            let next = spot.after(x, group.board.scale.join(spot.sofar, price));
             let nearer = best.map(|f| f.cost).or(bound);
-            let found = explore(board, next, nearer);
+            let found = explore(group, next, nearer);
             best = put(found, spot.place, x).or(best);
         }
     }
@@ -56,16 +56,16 @@ fn explore<S: Scale, R: Rule>(
 }
 
 // The first of the least of the group's sheets.
-pub(crate) fn best_of<S: Scale, R: Rule>(board: &Board<S, R>) -> Option<Found<S::Cost>>
-    ensures the_least_cost_and_the_first_word_of_it { Solution (S.Scale.measure board.now.scale.now) (task R.Rule.conflicts board.now) board.now.steps board.now.start result }
+pub(crate) fn best_of<S: Scale, R: Rule>(group: &Group<S, R>) -> Option<Found<S::Cost>>
+    ensures the_least_cost_and_the_first_word_of_it { Solution (S.Scale.measure group.now.board.scale.now) (task R.Rule.conflicts group.now.board) group.now.steps group.now.start result }
 {
     let first = Spot {
-        at: board.start,
+        at: group.start,
         to: [0; 8],
         moved: 0,
-        left: board.steps - 1,
+        left: group.steps - 1,
         place: 0,
-        sofar: board.scale.nothing(),
+        sofar: group.board.scale.nothing(),
     };
-    explore(board, first, None)
+    explore(group, first, None)
 }

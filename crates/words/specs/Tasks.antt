@@ -12,6 +12,7 @@ use Rattle.words.specs.Joint.{Task, Joint, process}
 use Rattle.sheets.specs.declared.asked.Asked.{Asked}
 use Rattle.words.specs.declared.board.Board.{Board}
 use Rattle.words.specs.declared.chosen.Chosen.{Chosen}
+use Rattle.words.specs.declared.group.Group.{Group}
 use Rattle.words.specs.declared.found.Found.{Found}
 
 -- whether a train in a may stand there or run to b, which is open
@@ -26,16 +27,16 @@ task_of conflicts l o k goal = record { sections = sections_of l; trains = k; op
 abbrev pub task : {S R : Type 0} → (R → Layout → Conflicts) → Board S R → Task
 task conflicts b = task_of (conflicts b.rule.now b.layout.now) b.layout.now b.roster.now b.trains b.goal
 
--- the board has what is asked of the rows that are chosen
-pub record BoardOf {S R : Type 0} (a : Asked R S) (c : Chosen) (b : Board S R) : Type 0 where
-  pub scale : b.scale.now ≡ a.scale.now
-  pub rule : b.rule.now ≡ a.rule.now
-  pub layout : b.layout.now ≡ a.question.now.layout.now
-  pub roster : b.roster.now ≡ a.question.now.roster.now
-  pub trains : b.trains ≡ c.trains
-  pub start : b.start ≡ c.start
-  pub goal : b.goal ≡ c.goal
-  pub steps : b.steps ≡ a.question.now.steps
+-- the group has what is asked of the rows that are chosen
+pub record GroupOf {S R : Type 0} (a : Asked R S) (c : Chosen) (g : Group S R) : Type 0 where
+  pub scale : g.board.scale.now ≡ a.scale.now
+  pub rule : g.board.rule.now ≡ a.rule.now
+  pub layout : g.board.layout.now ≡ a.question.now.layout.now
+  pub roster : g.board.roster.now ≡ a.question.now.roster.now
+  pub trains : g.board.trains ≡ c.trains
+  pub start : g.start ≡ c.start
+  pub goal : g.board.goal ≡ c.goal
+  pub steps : g.steps ≡ a.question.now.steps
 
 abbrev pub cost_of : {C : Type 0} → Option (Found C) → Option C
 cost_of None = None

@@ -5,5 +5,6 @@ pub mod board;
 pub mod choose;
 pub mod chosen;
 pub mod found;
+pub mod group;
 pub mod rests;
 pub mod written;

@@ -1,4 +1,4 @@
-ghost use Rattle.std.specs.Prelude.{◌≡◌, ◌<◌, true, not, take};
+ghost use Rattle.std.specs.Prelude.{◌≡◌, ◌<◌, ◌≤◌, true, not, take};
 ghost use Rattle.std.specs.List.{list_all, zip};
 ghost use Rattle.words.specs.Joint.{may_move, move_price, home};
 ghost use Rattle.words.specs.Tasks.{task, open_to};
@@ -21,6 +21,7 @@ impl<'a, S, R> Board<'a, S, R> {
     // Whether every train stands at its goal.
     #[tactic(auto, using(crate::proofs::Pairs::all_pointwise))]
     pub fn all_home(&self, at: [u8; 8]) -> bool
+        requires { self.now.trains ≤ 8 }
         ensures whether_every_train_is_at_its_goal { result ≡ home (task (λ _ _ _ _ _ _. true) self.now) (take self.now.trains at) }
     {
         at[..self.trains] == self.goal[..self.trains]
@@ -47,7 +48,8 @@ impl<'a, S, R: Rule> Board<'a, S, R> {
 impl<'a, S: Scale, R> Board<'a, S, R> {
     // The price of the move of the train j to x.
     pub fn move_price(&self, at: [u8; 8], j: usize, x: u8) -> S::Cost
-        requires { j < self.now.trains }
+        requires of_the_group { j < self.now.trains }
+        requires few { self.now.trains ≤ 8 }
         ensures the_price_of_the_move { result ≡ move_price (S.Scale.measure self.now.scale.now) (task (λ _ _ _ _ _ _. true) self.now) at j x }
     {
         let goal = self.goal[j];

@@ -1,7 +1,7 @@
 use Rattle.std.proofs.Common.{true}
 use Rattle.sheets.proofs.Posed.{sound}
 use Rattle.words.proofs.Solving.{trains_some, trains_most}
-use Rattle.words.proofs.board.Board.of.Goals as goal
+use Rattle.words.proofs.group.Group.of.Goals as goal
 
 pub invariant_of-result : goal.invariant_of-result
 invariant_of-result g c =
