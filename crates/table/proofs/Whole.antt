@@ -8,21 +8,21 @@ use Rattle.rules.specs.Conflicts.{Conflicts}
 use Rattle.sheets.specs.declared.asked.Asked.{Asked}
 use Rattle.sheets.proofs.Posed.{posed_of}
 use Rattle.words.specs.Rests.{On}
-use Rattle.words.specs.Tasks.{task, BoardOf}
+use Rattle.words.specs.Tasks.{task, GroupOf}
 use Rattle.words.specs.Rows.{row_of, ChosenTo}
-use Rattle.words.specs.declared.board.Board.{Board}
+use Rattle.words.specs.declared.group.Group.{Group}
 use Rattle.words.specs.declared.chosen.Chosen.{Chosen}
 use Rattle.table.specs.declared.positions.Positions.{Positions}
 use Rattle.table.proofs.Numbers.{power_size}
 
 -- the trains start on the layout
-pub starts : {S R : Type 0} (conflicts : R → Layout → Conflicts) (a : Asked R S) (c : Chosen) (b : Board S R) → ChosenTo a.question.now (rows_of a.question.now.roster.now) c → BoardOf a c b → On (task conflicts b) b.trains b.start
+pub starts : {S R : Type 0} (conflicts : R → Layout → Conflicts) (a : Asked R S) (c : Chosen) (b : Group S R) → ChosenTo a.question.now (rows_of a.question.now.roster.now) c → GroupOf a c b → On (task conflicts b.board) b.board.trains b.start
 starts conflicts a c b H B i h = rw (B.layout, B.start, H.starts i (omega (arith, B.trains))) ((posed_of (conflicts a.rule.now a.question.now.layout.now) a.question.now).start_inside (row_of c i) (H.below i (omega (arith, B.trains))))
 
 -- the number of cells that are used is far below the largest number
 pub cells_fit : {A B : Type 0} (p : Positions A B) (steps : ℕ) → steps ≤ 16 → p.count * (steps + 1) ≤ 2 ^ 40 * 17
 cells_fit p steps h =
-    let a : p.count ≤ 2 ^ 40 = subst (λ z. z ≤ 2 ^ 40) (sym p.all) (power_size (sections_of p.board.now.layout.now) p.board.now.trains (sections_most p.board.now.layout.now) p.board.now.few) in
+    let a : p.count ≤ 2 ^ 40 = subst (λ z. z ≤ 2 ^ 40) (sym p.all) (power_size (sections_of p.group.now.board.layout.now) p.group.now.board.trains (sections_most p.group.now.board.layout.now) p.group.now.few) in
     let b : steps + 1 ≤ 17 = omega arith in
     mul-le-mul a b
 

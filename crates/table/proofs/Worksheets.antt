@@ -64,7 +64,7 @@ module _ {C : Type 0} (S : Measure C) (K : Task) where
 module _ {A B : Type 0} (conflicts : B → Layout → Conflicts) where
   -- a worksheet that is filled knows the costs of the rest
   pub filled_knows : {C : Type 0} (S : Measure C) (f : Filled A B C) (most : ℕ) → most * f.positions.now.count + f.positions.now.count ≤ length f.cells.now
-      → Columns S (task conflicts f.positions.now.board.now) most f.positions.now.count f.cells.now → Knows S (task conflicts f.positions.now.board.now) most (Within f) (cell_at f)
+      → Columns S (task conflicts f.positions.now.group.now.board) most f.positions.now.count f.cells.now → Knows S (task conflicts f.positions.now.group.now.board) most (Within f) (cell_at f)
   filled_knows S f most room H = record {
     may_be_asked = λ left at h l o. record {
       room = (let m : left * f.positions.now.count ≤ most * f.positions.now.count = mul-le-mul h size_self in omega arith);
@@ -76,15 +76,15 @@ module _ {A B : Type 0} (conflicts : B → Layout → Conflicts) where
   }
     where
       K : Task
-      K = task conflicts f.positions.now.board.now
+      K = task conflicts f.positions.now.group.now.board
 
       size_self : f.positions.now.count ≤ f.positions.now.count
       size_self = omega arith
 
-  pub ready_start : (p : Positions A B) (left code : ℕ) (at : List ℕ) → code < p.count → take p.board.now.trains at ≡ digits (sections_of p.board.now.layout.now) p.board.now.trains code
-      → Ready (task conflicts p.board.now) (begun left at)
+  pub ready_start : (p : Positions A B) (left code : ℕ) (at : List ℕ) → code < p.count → take p.group.now.board.trains at ≡ digits (sections_of p.group.now.board.layout.now) p.group.now.board.trains code
+      → Ready (task conflicts p.group.now.board) (begun left at)
   ready_start p left code at h e = record {
     in_group = omega arith;
-    at_inside = λ i l. on_digits (sections_of p.board.now.layout.now) p.board.now.trains code at (base_some (sections_of p.board.now.layout.now) p.board.now.trains p.count code p.all h (omega arith)) e i l;
+    at_inside = λ i l. on_digits (sections_of p.group.now.board.layout.now) p.group.now.board.trains code at (base_some (sections_of p.group.now.board.layout.now) p.group.now.board.trains p.count code p.all h (omega arith)) e i l;
     to_inside = λ i l. absurd (omega arith);
   }

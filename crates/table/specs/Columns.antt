@@ -27,11 +27,11 @@ KeptFrom bound old new = (i : ℕ) → bound ≤ i → slice_index_or new i None
 -- what a filled worksheet may be asked
 pub record Within {S R C : Type 0} (f : Filled S R C) (left : ℕ) (at : List ℕ) : Type 0 where
   pub room : left * f.positions.now.count + f.positions.now.count ≤ length f.cells.now
-  pub inside : (i : ℕ) → i < f.positions.now.board.now.trains → slice_index at i < sections_of f.positions.now.board.now.layout.now
+  pub inside : (i : ℕ) → i < f.positions.now.group.now.board.trains → slice_index at i < sections_of f.positions.now.group.now.board.layout.now
 
 -- what it says
 abbrev pub cell_at : {S R C : Type 0} → Filled S R C → (left : ℕ) → List ℕ → Option C
-cell_at f left at = slice_index_or f.cells.now (left * f.positions.now.count + code_of (sections_of f.positions.now.board.now.layout.now) f.positions.now.board.now.trains at) None
+cell_at f left at = slice_index_or f.cells.now (left * f.positions.now.count + code_of (sections_of f.positions.now.group.now.board.layout.now) f.positions.now.group.now.board.trains at) None
 
 -- a cell for each time and each joint position of the group's trains
 abbrev pub Enough : {C : Type 0} → Inquiry C → ℕ → Type 0

@@ -18,9 +18,9 @@ use search::answer::{Answer, Unplanned};
 use search::search::Search;
 use sheets::asked::Asked;
 use sheets::sheet::Sheet;
-use words::board::Board;
 use words::choose::choose;
 use words::found::Found;
+use words::group::Group;
 use words::written::answer;
 
 // The first of the least of the group's sheets, by a worksheet with a cell for each time and each joint position.
@@ -28,12 +28,12 @@ fn best_of<S: Scale, R: Rule>(
     positions: &Positions<S, R>,
     cells: &mut [Option<S::Cost>],
 ) -> Option<Found<S::Cost>>
-    requires starts { On (task R.Rule.conflicts positions.now.board.now) positions.now.board.now.trains positions.now.board.now.start }
-    requires room { positions.now.count * (positions.now.board.now.steps + 1) ≤ length cells.old }
-    ensures the_least_cost_and_the_first_sheet_that_has_it { Solution (S.Scale.measure positions.now.board.now.scale.now) (task R.Rule.conflicts positions.now.board.now) positions.now.board.now.steps positions.now.board.now.start result }
+    requires starts { On (task R.Rule.conflicts positions.now.group.now.board) positions.now.group.now.board.trains positions.now.group.now.start }
+    requires room { positions.now.count * (positions.now.group.now.steps + 1) ≤ length cells.old }
+    ensures the_least_cost_and_the_first_sheet_that_has_it { Solution (S.Scale.measure positions.now.group.now.board.scale.now) (task R.Rule.conflicts positions.now.group.now.board) positions.now.group.now.steps positions.now.group.now.start result }
 {
     fill(positions, cells);
-    read_off(positions.board, &Filled { cells, positions })
+    read_off(positions.group, &Filled { cells, positions })
 }
 
 // Asks for the best sheet of the question's group, in the first of the cells.
@@ -46,9 +46,9 @@ pub fn plan<S: Scale, R: Rule>(
     ensures the_cells_beyond_its_own_are_left_alone { KeptFrom (sections_of asked.now.question.now.layout.now ^ trains (inquired R.Rule.conflicts S.Scale.measure asked.now) * (asked.now.question.now.steps + 1)) cells.old cells.new }
 {
     let chosen = choose(asked.question);
-    let board = Board::of(asked, &chosen);
-    let positions = Positions::of(&board);
-    let used = positions.count * (board.steps + 1);
+    let group = Group::of(asked, &chosen);
+    let positions = Positions::of(&group);
+    let used = positions.count * (group.steps + 1);
     if used > cells.len() {
         return Err(Unplanned::BeyondReach);
     }

@@ -12,9 +12,9 @@ use scales::scale::Scale;
 // The column of no steps left: nothing is left to pay at the goals, and there is no way elsewhere.
 fn fill_last<S: Scale, R: Rule>(positions: &Positions<S, R>, column: &mut [Option<S::Cost>])
     requires a_cell_each { length column.old ≡ positions.now.count }
-    ensures the_column_is_filled { Column (S.Scale.measure positions.now.board.now.scale.now) (task R.Rule.conflicts positions.now.board.now) 0 positions.now.count column.new }
+    ensures the_column_is_filled { Column (S.Scale.measure positions.now.group.now.board.scale.now) (task R.Rule.conflicts positions.now.group.now.board) 0 positions.now.count column.new }
 {
-    let board = positions.board;
+    let board = &positions.group.board;
     for (code, cell) in column.iter_mut().enumerate() {
         let at = positions.decode(code);
         *cell = board.all_home(at).then(|| board.scale.nothing());
@@ -28,24 +28,24 @@ fn fill_next<S: Scale, R: Rule>(
     column: &mut [Option<S::Cost>],
 )
     requires room { left * filled.now.positions.now.count + filled.now.positions.now.count ≤ length filled.now.cells.now }
-    requires columns { Columns (S.Scale.measure filled.now.positions.now.board.now.scale.now) (task R.Rule.conflicts filled.now.positions.now.board.now) left filled.now.positions.now.count filled.now.cells.now }
+    requires columns { Columns (S.Scale.measure filled.now.positions.now.group.now.board.scale.now) (task R.Rule.conflicts filled.now.positions.now.group.now.board) left filled.now.positions.now.count filled.now.cells.now }
     requires a_cell_each { length column.old ≡ filled.now.positions.now.count }
-    ensures the_column_is_filled { Column (S.Scale.measure filled.now.positions.now.board.now.scale.now) (task R.Rule.conflicts filled.now.positions.now.board.now) (left + 1) filled.now.positions.now.count column.new }
+    ensures the_column_is_filled { Column (S.Scale.measure filled.now.positions.now.group.now.board.scale.now) (task R.Rule.conflicts filled.now.positions.now.group.now.board) (left + 1) filled.now.positions.now.count column.new }
 {
-    let board = filled.positions.board;
+    let group = filled.positions.group;
     for (code, cell) in column.iter_mut().enumerate() {
         let at = filled.positions.decode(code);
-        *cell = least_rest(board, filled, Turn::begin(left, at));
+        *cell = least_rest(group, filled, Turn::begin(left, at));
     }
 }
 
 // Works out the cost still to come, last time first: one cell for each time and each joint position.
 pub(crate) fn fill<S: Scale, R: Rule>(positions: &Positions<S, R>, cells: &mut [Option<S::Cost>])
-    requires room { positions.now.board.now.steps * positions.now.count + positions.now.count ≤ length cells.old }
-    ensures every_cell_has_the_least_cost_of_the_rest { Columns (S.Scale.measure positions.now.board.now.scale.now) (task R.Rule.conflicts positions.now.board.now) positions.now.board.now.steps positions.now.count cells.new }
+    requires room { positions.now.group.now.steps * positions.now.count + positions.now.count ≤ length cells.old }
+    ensures every_cell_has_the_least_cost_of_the_rest { Columns (S.Scale.measure positions.now.group.now.board.scale.now) (task R.Rule.conflicts positions.now.group.now.board) positions.now.group.now.steps positions.now.count cells.new }
 {
     fill_last(positions, &mut cells[..positions.count]);
-    for left in 0..positions.board.steps {
+    for left in 0..positions.group.steps {
         let (done, rest) = cells.split_at_mut((left + 1) * positions.count);
         let filled = Filled {
             cells: done,

@@ -1,17 +1,17 @@
 ghost use Rattle.std.specs.Prelude.{◌≡◌, ◌^◌};
 ghost use Rattle.track.specs.Layouts.{sections_of};
 
-use words::board::Board;
+use words::group::Group;
 
 pub mod codes;
 
-// The joint positions of a board's trains on its sections. Each has a number below `count`:
+// The joint positions of a group's trains on its sections. Each has a number below `count`:
 // its sections as digits, the first train's the highest.
 #[derive(Drop)]
 pub(crate) struct Positions<'a, S, R> {
-    pub(crate) board: &'a Board<'a, S, R>,
+    pub(crate) group: &'a Group<'a, S, R>,
     pub(crate) sections: u8,
     pub(crate) count: usize,
-    ghost of_the_layout: { sections ≡ sections_of board.now.layout.now },
-    ghost all: { count ≡ sections_of board.now.layout.now ^ board.now.trains },
+    ghost of_the_layout: { sections ≡ sections_of group.now.board.layout.now },
+    ghost all: { count ≡ sections_of group.now.board.layout.now ^ group.now.board.trains },
 }

@@ -3,30 +3,30 @@ ghost use Rattle.track.specs.Layouts.{sections_of};
 ghost use Rattle.table.specs.Codes.{digits, code_of};
 
 use crate::positions::Positions;
-use words::board::Board;
+use words::group::Group;
 
 impl<'a, S, R> Positions<'a, S, R> {
-    // The joint positions of a board's trains.
-    pub(crate) fn of(board: &'a Board<'a, S, R>) -> Positions<'a, S, R>
-        ensures of_the_board { result.board.now ≡ board.now }
+    // The joint positions of a group's trains.
+    pub(crate) fn of(group: &'a Group<'a, S, R>) -> Positions<'a, S, R>
+        ensures of_the_board { result.group.now ≡ group.now }
     {
-        let sections = board.layout.sections();
+        let sections = group.board.layout.sections();
         Positions {
-            board,
+            group,
             sections,
-            count: usize::from(sections).pow(board.trains as u32),
+            count: usize::from(sections).pow(group.board.trains as u32),
         }
     }
 
     // The joint position that a number stands for.
     pub(crate) fn decode(&self, code: usize) -> [u8; 8]
         requires { code < self.now.count }
-        ensures the_digits_of_the_code { take self.now.board.now.trains result ≡ digits (sections_of self.now.board.now.layout.now) self.now.board.now.trains code }
+        ensures the_digits_of_the_code { take self.now.group.now.board.trains result ≡ digits (sections_of self.now.group.now.board.layout.now) self.now.group.now.board.trains code }
     {
         let mut at = [0; 8];
         let mut left = code;
         // by the place: after a loop over `iter_mut().rev()` a proof knows no digit that it wrote
-        for i in (0..self.board.trains).rev() {
+        for i in (0..self.group.board.trains).rev() {
             at[i] = (left % usize::from(self.sections)) as u8;
             left /= usize::from(self.sections);
         }
@@ -35,12 +35,12 @@ impl<'a, S, R> Positions<'a, S, R> {
 
     // The number that stands for a joint position.
     pub(crate) fn code_of(&self, at: [u8; 8]) -> usize
-        requires { (i : ℕ) → i < self.now.board.now.trains → slice_index at i < sections_of self.now.board.now.layout.now }
-        ensures the_code_of_the_position { result ≡ code_of (sections_of self.now.board.now.layout.now) self.now.board.now.trains at }
+        requires { (i : ℕ) → i < self.now.group.now.board.trains → slice_index at i < sections_of self.now.group.now.board.layout.now }
+        ensures the_code_of_the_position { result ≡ code_of (sections_of self.now.group.now.board.layout.now) self.now.group.now.board.trains at }
         ensures one_of_them { result < self.now.count }
     {
         let mut code = 0;
-        for section in &at[..self.board.trains] {
+        for section in &at[..self.group.board.trains] {
             code = code * usize::from(self.sections) + usize::from(*section);
         }
         code

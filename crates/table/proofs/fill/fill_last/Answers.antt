@@ -7,8 +7,8 @@ use Rattle.table.proofs.fill.fill_last.Goals as goal
 
 pub loop-code-preserved : goal.loop-code-preserved
 loop-code-preserved g c =
-    let S = g.S.Scale.measure c.args.positions.now.board.now.scale.now in
-    let K = task g.R.Rule.conflicts c.args.positions.now.board.now in
+    let S = g.S.Scale.measure c.args.positions.now.group.now.board.scale.now in
+    let K = task g.R.Rule.conflicts c.args.positions.now.group.now.board in
     let d = c.decode-at.ensures.the_digits_of_the_code in
     let e : c.then.result ≡ cond c.all_home.result (Some S.nothing) None = search rules in
     rw (e ∙ home_due S K c.loop-code.code c.decode-at.result c.all_home.result d c.all_home.ensures.whether_every_train_is_at_its_goal)

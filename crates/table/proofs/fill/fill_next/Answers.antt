@@ -14,9 +14,9 @@ least_rest-requires g c =
 
 pub loop-code-preserved : goal.loop-code-preserved
 loop-code-preserved g c =
-    let S = g.S.Scale.measure c.args.filled.now.positions.now.board.now.scale.now in
-    let K = task g.R.Rule.conflicts c.args.filled.now.positions.now.board.now in
+    let S = g.S.Scale.measure c.args.filled.now.positions.now.group.now.board.scale.now in
+    let K = task g.R.Rule.conflicts c.args.filled.now.positions.now.group.now.board in
     let d = c.decode-at.ensures.the_digits_of_the_code in
     let e = rw c.begin.ensures.no_train_has_moved at c.least_rest.ensures.the_least_cost_of_the_rest in
-    rw (e ∙ due_next S K c.args.left c.loop-code.code c.decode-at.result c.args.filled.now.positions.now.board.now.some d)
+    rw (e ∙ due_next S K c.args.left c.loop-code.code c.decode-at.result c.args.filled.now.positions.now.group.now.some d)
     (fill_by_more (due S K (c.args.left + 1)) c.loop-code.column c.loop-code.code _ (omega (arith, c.loop-code-test.true, c.loop-code.auto.column)) c.loop-code.invariant)

@@ -11,28 +11,28 @@ loop-section-init g c = refl
 
 pub overflow_mul-code : goal.overflow_mul-code
 overflow_mul-code g c =
-    let h : c.loop-section.section-index < c.args.self.now.board.now.trains = omega (arith, length-take {A = ℕ}) in
+    let h : c.loop-section.section-index < c.args.self.now.group.now.board.trains = omega (arith, length-take {A = ℕ}) in
     rw (c.from.ensures, c.args.self.now.of_the_layout, c.loop-section.invariant)
-    (omega (arith, code_fits (sections_of c.args.self.now.board.now.layout.now) c.args.at c.loop-section.section-index c.args.self.now.board.now.trains (sections_most c.args.self.now.board.now.layout.now) c.args.self.now.board.now.few h c.requires))
+    (omega (arith, code_fits (sections_of c.args.self.now.group.now.board.layout.now) c.args.at c.loop-section.section-index c.args.self.now.group.now.board.trains (sections_most c.args.self.now.group.now.board.layout.now) c.args.self.now.group.now.few h c.requires))
 
 pub overflow_add-code : goal.overflow_add-code
 overflow_add-code g c =
-    let h : c.loop-section.section-index < c.args.self.now.board.now.trains = omega (arith, length-take {A = ℕ}) in
-    rw (c.from.ensures, c.args.self.now.of_the_layout, c.loop-section.invariant, c.from-in-loop-section.ensures, get_or-take c.args.self.now.board.now.trains c.args.at c.loop-section.section-index 0 h)
-    (omega (arith, code_fits (sections_of c.args.self.now.board.now.layout.now) c.args.at c.loop-section.section-index c.args.self.now.board.now.trains (sections_most c.args.self.now.board.now.layout.now) c.args.self.now.board.now.few h c.requires))
+    let h : c.loop-section.section-index < c.args.self.now.group.now.board.trains = omega (arith, length-take {A = ℕ}) in
+    rw (c.from.ensures, c.args.self.now.of_the_layout, c.loop-section.invariant, c.from-in-loop-section.ensures, get_or-take c.args.self.now.group.now.board.trains c.args.at c.loop-section.section-index 0 h)
+    (omega (arith, code_fits (sections_of c.args.self.now.group.now.board.layout.now) c.args.at c.loop-section.section-index c.args.self.now.group.now.board.trains (sections_most c.args.self.now.group.now.board.layout.now) c.args.self.now.group.now.few h c.requires))
 
 pub loop-section-preserved : goal.loop-section-preserved
 loop-section-preserved g c =
-    let h : c.loop-section.section-index < c.args.self.now.board.now.trains = omega (arith, length-take {A = ℕ}) in
-    rw (c.from.ensures, c.args.self.now.of_the_layout, c.loop-section.invariant, c.from-in-loop-section.ensures, get_or-take c.args.self.now.board.now.trains c.args.at c.loop-section.section-index 0 h)
-    (code_more (sections_of c.args.self.now.board.now.layout.now) c.args.at c.loop-section.section-index)
+    let h : c.loop-section.section-index < c.args.self.now.group.now.board.trains = omega (arith, length-take {A = ℕ}) in
+    rw (c.from.ensures, c.args.self.now.of_the_layout, c.loop-section.invariant, c.from-in-loop-section.ensures, get_or-take c.args.self.now.group.now.board.trains c.args.at c.loop-section.section-index 0 h)
+    (code_more (sections_of c.args.self.now.group.now.board.layout.now) c.args.at c.loop-section.section-index)
 
 pub returns : goal.returns
 returns g c =
-    let l : c.args.self.now.board.now.trains ≤ length c.args.at = search rules in
-    let e : c.loop-section.section-index ≡ c.args.self.now.board.now.trains = omega (arith, length-take {A = ℕ}, c.loop-section-test.false, c.loop-section.auto) in
-    let v : c.loop-section.code ≡ code_of (sections_of c.args.self.now.board.now.layout.now) c.args.self.now.board.now.trains c.args.at = rw e at c.loop-section.invariant in
+    let l : c.args.self.now.group.now.board.trains ≤ length c.args.at = search rules in
+    let e : c.loop-section.section-index ≡ c.args.self.now.group.now.board.trains = omega (arith, length-take {A = ℕ}, c.loop-section-test.false, c.loop-section.auto) in
+    let v : c.loop-section.code ≡ code_of (sections_of c.args.self.now.group.now.board.layout.now) c.args.self.now.group.now.board.trains c.args.at = rw e at c.loop-section.invariant in
     record {
       the_code_of_the_position = v;
-      one_of_them = omega (arith, v, c.args.self.now.all, code_below (sections_of c.args.self.now.board.now.layout.now) c.args.at c.args.self.now.board.now.trains c.requires);
+      one_of_them = omega (arith, v, c.args.self.now.all, code_below (sections_of c.args.self.now.group.now.board.layout.now) c.args.at c.args.self.now.group.now.board.trains c.requires);
     }
