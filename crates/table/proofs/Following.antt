@@ -91,21 +91,19 @@ module _ {C : Type 0} (S : Measure C) (L : MeasureLaws S) (K : Task) (left : ℕ
 -- t steps are written, and the best word goes on from where the trains are
 pub record Followed {C : Type 0} (S : Measure C) (K : Task) (steps : ℕ) (start : List ℕ) (t : ℕ) (at plan : List ℕ) : Type 0 where
   pub long : length plan ≡ 128
-  pub eight : length at ≡ 8
   pub inside : On K K.trains at
   pub can : Can S K (steps - t) at
   pub word : take (K.trains * t) plan ++ best S (process S K) (K.trains * (steps - t)) (begin K at) ≡ best S (process S K) (K.trains * steps) (begin K start)
 
 module _ {C : Type 0} (S : Measure C) (K : Task) (steps : ℕ) (start : List ℕ) where
-  pub follow_more : (t : ℕ) (at plan to plan' : List ℕ) → t < steps → Followed S K steps start t at plan → Stepped S K (steps - 1 - t) at to → length to ≡ 8 → length plan' ≡ 128
+  pub follow_more : (t : ℕ) (at plan to plan' : List ℕ) → t < steps → Followed S K steps start t at plan → Stepped S K (steps - 1 - t) at to → length plan' ≡ 128
       → take (K.trains * t + K.trains) plan' ≡ take (K.trains * t) plan ++ take K.trains to → Followed S K steps start (t + 1) to plan'
-  follow_more t at plan to plan' h F W lt lp e =
+  follow_more t at plan to plan' h F W lp e =
       let n : steps - 1 - t + 1 ≡ steps - t = omega arith in
       let m : steps - (t + 1) ≡ steps - 1 - t = omega arith in
       let k : K.trains * (t + 1) ≡ K.trains * t + K.trains = (let a = mul-add K.trains t 1 in omega arith) in
       record {
         long = lp;
-        eight = lt;
         inside = W.inside;
         can = ap (λ s. is_some (rest S (process S K) (K.trains * s) (begin K to))) m ∙ W.can;
         word = ap₂ (λ a s. take a plan' ++ best S (process S K) (K.trains * s) (begin K to)) k m

@@ -1,5 +1,6 @@
 -- The worksheet, column by column.
 use Rattle.std.proofs.Common.{◌≡◌, ℕ, ◌+◌, ◌*◌, ◌<◌, ◌≤◌, Bool, cond, List, [], ◌++◌, length, get_or, take, Some, None, Option, sym, ap, ◌∙◌, subst, ap₂, ⊎_elim, add-mul, mul-le-mul, mul-zero, mul-add, arith}
+use Rattle.std.proofs.Props.{props}
 use Rattle.std.proofs.lemmas.Bool.{cases_lt}
 use Rattle.std.proofs.lemmas.List.{get_or-take, get_or_append_left, get_or-append-add}
 use Rattle.track.specs.Layouts.{sections_of}
@@ -8,9 +9,9 @@ use Rattle.rules.specs.Conflicts.{Conflicts}
 use Rattle.scales.specs.Measure.{Measure}
 use Rattle.words.specs.Words.{rest}
 use Rattle.words.specs.Joint.{Task, home, process}
-use Rattle.words.specs.Rests.{Knows}
 use Rattle.words.specs.Tasks.{task}
 use Rattle.words.proofs.Turns.{turned_part}
+use Rattle.table.specs.Ahead.{Tells}
 use Rattle.table.specs.Codes.{digits, code_of}
 use Rattle.table.specs.Columns.{due, Column, Columns, Within, cell_at}
 use Rattle.table.specs.Steps.{todo, joint, Ready}
@@ -62,17 +63,23 @@ module _ {C : Type 0} (S : Measure C) (K : Task) where
       rw z (ap (λ q. cond q (Some S.nothing) None) f)
 
 module _ {A B : Type 0} (conflicts : B → Layout → Conflicts) where
+  within_once : {C : Type 0} (f : Filled A B C) (left : ℕ) (at : List ℕ) (a b : Within f left at) → a ≡ b
+  within_once f left at = Prim.hlevel props
+
   -- a worksheet that is filled knows the costs of the rest
-  pub filled_knows : {C : Type 0} (S : Measure C) (f : Filled A B C) (most : ℕ) → most * f.positions.now.count + f.positions.now.count ≤ length f.cells.now
-      → Columns S (task conflicts f.positions.now.group.now.board) most f.positions.now.count f.cells.now → Knows S (task conflicts f.positions.now.group.now.board) most (Within f) (cell_at f)
-  filled_knows S f most room H = record {
-    may_be_asked = λ left at h l o. record {
-      room = (let m : left * f.positions.now.count ≤ most * f.positions.now.count = mul-le-mul h size_self in omega arith);
-      inside = o;
+  pub filled_tells : {C : Type 0} (S : Measure C) (f : Filled A B C) (most : ℕ) → most * f.positions.now.count + f.positions.now.count ≤ length f.cells.now
+      → Columns S (task conflicts f.positions.now.group.now.board) most f.positions.now.count f.cells.now → Tells S (task conflicts f.positions.now.group.now.board) most (Within f) (cell_at f)
+  filled_tells S f most room H = record {
+    knows = record {
+      may_be_asked = λ left at h l o. record {
+        room = (let m : left * f.positions.now.count ≤ most * f.positions.now.count = mul-le-mul h size_self in omega arith);
+        inside = o;
+      };
+      least_of_the_rest = λ left at h l o.
+          H left (code_of K.sections K.trains at) h (subst (λ z. code_of K.sections K.trains at < z) (sym f.positions.now.all) (code_below K.sections at K.trains o))
+          ∙ ap (λ w. rest S (process S K) (K.trains * left) (record { at = w; to = [] })) (code_digits K.sections at K.trains l o);
     };
-    least_of_the_rest = λ left at h l o.
-        H left (code_of K.sections K.trains at) h (subst (λ z. code_of K.sections K.trains at < z) (sym f.positions.now.all) (code_below K.sections at K.trains o))
-        ∙ ap (λ w. rest S (process S K) (K.trains * left) (record { at = w; to = [] })) (code_digits K.sections at K.trains l o);
+    once = λ left at a b. within_once f left at a b;
   }
     where
       K : Task
@@ -82,8 +89,9 @@ module _ {A B : Type 0} (conflicts : B → Layout → Conflicts) where
       size_self = omega arith
 
   pub ready_start : (p : Positions A B) (left code : ℕ) (at : List ℕ) → code < p.count → take p.group.now.board.trains at ≡ digits (sections_of p.group.now.board.layout.now) p.group.now.board.trains code
-      → Ready (task conflicts p.group.now.board) (begun left at)
+      → Ready (task conflicts p.group.now.board) left (begun left at)
   ready_start p left code at h e = record {
+    known = omega arith;
     in_group = omega arith;
     at_inside = λ i l. on_digits (sections_of p.group.now.board.layout.now) p.group.now.board.trains code at (base_some (sections_of p.group.now.board.layout.now) p.group.now.board.trains p.count code p.all h (omega arith)) e i l;
     to_inside = λ i l. absurd (omega arith);

@@ -25,8 +25,9 @@ abbrev pub MovesTo : {C : Type 0} → Option (Pick C) → ℕ → Type 0
 MovesTo None x = Unit {0}
 MovesTo (Some p) x = p.section ≡ x
 
--- the search of a step may go on from here
-pub record Ready (K : Task) (t : Turn) : Type 0 where
+-- the search of a step may go on from here, if the costs of the rest are known for up to `most` steps
+pub record Ready (K : Task) (most : ℕ) (t : Turn) : Type 0 where
+  pub known : t.left ≤ most
   pub in_group : t.moved ≤ K.trains
   pub at_inside : On K K.trains t.at
   pub to_inside : On K t.moved t.to

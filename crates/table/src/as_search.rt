@@ -7,6 +7,7 @@ ghost use Rattle.words.specs.Tasks.{task, Solution};
 ghost use Rattle.table.specs.Columns.{Enough, KeptFrom};
 ghost use Rattle.table.specs.OneTrain.{one_train_lem};
 
+use crate::ahead::Ahead;
 use crate::fill::fill;
 use crate::filled::Filled;
 use crate::positions::Positions;
@@ -33,7 +34,11 @@ fn best_of<S: Scale, R: Rule>(
     ensures the_least_cost_and_the_first_sheet_that_has_it { Solution (S.Scale.measure positions.now.group.now.board.scale.now) (task R.Rule.conflicts positions.now.group.now.board) positions.now.group.now.steps positions.now.group.now.start result }
 {
     fill(positions, cells);
-    read_off(positions.group, &Filled { cells, positions })
+    read_off(&Ahead {
+        group: positions.group,
+        rests: &Filled { cells, positions },
+        most: positions.group.steps,
+    })
 }
 
 // Asks for the best sheet of the question's group, in the first of the cells.

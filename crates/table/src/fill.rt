@@ -2,6 +2,7 @@ ghost use Rattle.std.specs.Prelude.{◌≡◌, ◌+◌, ◌*◌, ◌<◌, ◌≤
 ghost use Rattle.words.specs.Tasks.{task};
 ghost use Rattle.table.specs.Columns.{due, Column, Columns};
 
+use crate::ahead::Ahead;
 use crate::filled::Filled;
 use crate::positions::Positions;
 use crate::step::least_rest;
@@ -32,10 +33,14 @@ fn fill_next<S: Scale, R: Rule>(
     requires a_cell_each { length column.old ≡ filled.now.positions.now.count }
     ensures the_column_is_filled { Column (S.Scale.measure filled.now.positions.now.group.now.board.scale.now) (task R.Rule.conflicts filled.now.positions.now.group.now.board) (left + 1) filled.now.positions.now.count column.new }
 {
-    let group = filled.positions.group;
+    let ahead = Ahead {
+        group: filled.positions.group,
+        rests: filled,
+        most: left,
+    };
     for (code, cell) in column.iter_mut().enumerate() {
         let at = filled.positions.decode(code);
-        *cell = least_rest(group, filled, Turn::begin(left, at));
+        *cell = least_rest(&ahead, Turn::begin(left, at));
     }
 }
 

@@ -2,6 +2,7 @@
 // and reads the best sheet off these costs.
 #![tactic(auto)]
 
+pub mod ahead;
 pub mod as_search;
 pub mod candidates;
 pub mod fill;

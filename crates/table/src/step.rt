@@ -1,54 +1,51 @@
-ghost use Rattle.std.specs.Prelude.{◌≡◌, ◌+◌, ◌<◌};
+ghost use Rattle.std.specs.Prelude.{◌≡◌, ◌+◌, ◌<◌, ◌≤◌};
 ghost use Rattle.words.specs.Joint.{process};
-ghost use Rattle.words.specs.Rests.{On, Knows};
+ghost use Rattle.words.specs.Rests.{On};
 ghost use Rattle.words.specs.Tasks.{task};
 ghost use Rattle.words.specs.Words.{rest};
 ghost use Rattle.table.specs.Steps.{todo, joint, move_cost, Ready, Picked, Can, Stepped};
 
+use crate::ahead::Ahead;
 use crate::candidates::candidates;
 use crate::pick::Pick;
 use crate::turn::Turn;
 use rules::rule::Rule;
 use scales::least::first_least;
 use scales::scale::Scale;
-use words::group::Group;
 use words::rests::Rests;
 
 // The least cost of the rest of a step from here on, and of all that is still to come.
 #[cycle(step)]
 pub(crate) fn least_rest<S: Scale, R: Rule, N: Rests<S::Cost>>(
-    group: &Group<S, R>,
-    rests: &N,
+    ahead: &Ahead<S, R, N>,
     turn: Turn,
 ) -> Option<S::Cost>
-    requires ready { Ready (task R.Rule.conflicts group.now.board) turn }
-    requires knows { Knows (S.Scale.measure group.now.board.scale.now) (task R.Rule.conflicts group.now.board) turn.left (N.Rests.asked rests.now) (N.Rests.known rests.now) }
-    ensures the_least_cost_of_the_rest { result ≡ rest (S.Scale.measure group.now.board.scale.now) (process (S.Scale.measure group.now.board.scale.now) (task R.Rule.conflicts group.now.board)) (todo (task R.Rule.conflicts group.now.board) turn.left turn.moved) (joint (task R.Rule.conflicts group.now.board) turn) }
+    requires ready { Ready (task R.Rule.conflicts ahead.now.group.now.board) ahead.now.most turn }
+    ensures the_least_cost_of_the_rest { result ≡ rest (S.Scale.measure ahead.now.group.now.board.scale.now) (process (S.Scale.measure ahead.now.group.now.board.scale.now) (task R.Rule.conflicts ahead.now.group.now.board)) (todo (task R.Rule.conflicts ahead.now.group.now.board) turn.left turn.moved) (joint (task R.Rule.conflicts ahead.now.group.now.board) turn) }
 {
-    if turn.moved == group.board.trains {
-        return rests.rest(turn.left, turn.to);
+    if turn.moved == ahead.group.board.trains {
+        return ahead.rest(turn.left, turn.to);
     }
-    best_move(group, rests, turn).map(|pick| pick.cost)
+    best_move(ahead, turn).map(|pick| pick.cost)
 }
 
 // What the move of the next train to x costs with all that is still to come, if it may be made.
 #[cycle(step)]
 fn move_cost<S: Scale, R: Rule, N: Rests<S::Cost>>(
-    group: &Group<S, R>,
-    rests: &N,
+    ahead: &Ahead<S, R, N>,
     turn: Turn,
     x: u8,
 ) -> Option<S::Cost>
-    requires ready { Ready (task R.Rule.conflicts group.now.board) turn }
-    requires yet_to_move { turn.moved < group.now.board.trains }
-    requires inside { x < (task R.Rule.conflicts group.now.board).sections }
-    requires knows { Knows (S.Scale.measure group.now.board.scale.now) (task R.Rule.conflicts group.now.board) turn.left (N.Rests.asked rests.now) (N.Rests.known rests.now) }
-    ensures the_price_joined_with_the_rest { result ≡ move_cost (S.Scale.measure group.now.board.scale.now) (task R.Rule.conflicts group.now.board) turn x }
+    requires ready { Ready (task R.Rule.conflicts ahead.now.group.now.board) ahead.now.most turn }
+    requires yet_to_move { turn.moved < ahead.now.group.now.board.trains }
+    requires inside { x < (task R.Rule.conflicts ahead.now.group.now.board).sections }
+    ensures the_price_joined_with_the_rest { result ≡ move_cost (S.Scale.measure ahead.now.group.now.board.scale.now) (task R.Rule.conflicts ahead.now.group.now.board) turn x }
 {
+    let group = ahead.group;
     if !group.board.may_move(turn.at, turn.to, turn.moved, x) {
         return None;
     }
-    let rest = least_rest(group, rests, turn.after(x))?;
+    let rest = least_rest(ahead, turn.after(x))?;
     let price = group.board.move_price(turn.at, turn.moved, x);
     Some(group.board.scale.join(price, rest))
 }
@@ -57,22 +54,21 @@ fn move_cost<S: Scale, R: Rule, N: Rests<S::Cost>>(
 // and the lowest section that makes it up.
 #[cycle(step)]
 pub(crate) fn best_move<S: Scale, R: Rule, N: Rests<S::Cost>>(
-    group: &Group<S, R>,
-    rests: &N,
+    ahead: &Ahead<S, R, N>,
     turn: Turn,
 ) -> Option<Pick<S::Cost>>
-    requires ready { Ready (task R.Rule.conflicts group.now.board) turn }
-    requires yet_to_move { turn.moved < group.now.board.trains }
-    requires knows { Knows (S.Scale.measure group.now.board.scale.now) (task R.Rule.conflicts group.now.board) turn.left (N.Rests.asked rests.now) (N.Rests.known rests.now) }
-    ensures the_least_and_the_first_that_makes_it_up { Picked (S.Scale.measure group.now.board.scale.now) (task R.Rule.conflicts group.now.board) turn result }
+    requires ready { Ready (task R.Rule.conflicts ahead.now.group.now.board) ahead.now.most turn }
+    requires yet_to_move { turn.moved < ahead.now.group.now.board.trains }
+    ensures the_least_and_the_first_that_makes_it_up { Picked (S.Scale.measure ahead.now.group.now.board.scale.now) (task R.Rule.conflicts ahead.now.group.now.board) turn result }
 {
+    let group = ahead.group;
     let tries = candidates(group.board.layout, turn.at[turn.moved]);
     let sections = tries.sections();
     // room for every try, so that no memory is asked for; a cell is written by its place,
     // since after a loop over a zip with `iter_mut` a proof knows no cell that it wrote
     let mut run = [None; 33];
     for (i, x) in sections.iter().enumerate() {
-        run[i] = move_cost(group, rests, turn, *x);
+        run[i] = move_cost(ahead, turn, *x);
     }
     let (place, cost) = first_least(group.board.scale, &run[..sections.len()])?;
     Some(Pick {
@@ -84,19 +80,18 @@ pub(crate) fn best_move<S: Scale, R: Rule, N: Rests<S::Cost>>(
 // The joint step to take from here: of those whose price and rest make up the least cost the first,
 // by the section of the first train, then of the next.
 pub(crate) fn joint_step<S: Scale, R: Rule, N: Rests<S::Cost>>(
-    group: &Group<S, R>,
-    rests: &N,
+    ahead: &Ahead<S, R, N>,
     left: usize,
     at: [u8; 8],
 ) -> [u8; 8]
-    requires on_the_layout { On (task R.Rule.conflicts group.now.board) group.now.board.trains at }
-    requires knows { Knows (S.Scale.measure group.now.board.scale.now) (task R.Rule.conflicts group.now.board) left (N.Rests.asked rests.now) (N.Rests.known rests.now) }
-    requires can { Can (S.Scale.measure group.now.board.scale.now) (task R.Rule.conflicts group.now.board) (left + 1) at }
-    ensures the_best_word_goes_on_from_there { Stepped (S.Scale.measure group.now.board.scale.now) (task R.Rule.conflicts group.now.board) left at result }
+    requires so_many_are_known { left ≤ ahead.now.most }
+    requires on_the_layout { On (task R.Rule.conflicts ahead.now.group.now.board) ahead.now.group.now.board.trains at }
+    requires can { Can (S.Scale.measure ahead.now.group.now.board.scale.now) (task R.Rule.conflicts ahead.now.group.now.board) (left + 1) at }
+    ensures the_best_word_goes_on_from_there { Stepped (S.Scale.measure ahead.now.group.now.board.scale.now) (task R.Rule.conflicts ahead.now.group.now.board) left at result }
 {
     let mut turn = Turn::begin(left, at);
-    for _ in 0..group.board.trains {
-        let pick = best_move(group, rests, turn).unwrap();
+    for _ in 0..ahead.group.board.trains {
+        let pick = best_move(ahead, turn).unwrap();
         turn = turn.after(pick.section);
     }
     turn.to
