@@ -8,6 +8,7 @@ use crate::part::Part;
 use track::refusal::Refusal;
 
 // What a frame asks for, without its fields. Its first byte is the number of its kind.
+// The cases are those of `Frame`: the kind is read before the fields are known to be there.
 #[derive(Clone, Copy, PartialEq, Eq, Debug)]
 pub enum Kind {
     AddSections,

@@ -2,6 +2,7 @@ ghost use Rattle.std.specs.Prelude.{◌≡◌, ◌*◌, ◌<◌, ◌≤◌, leng
 ghost use Rattle.std.specs.List.{AllByRecursion};
 ghost use Rattle.frames.specs.Text.{digit_of, trio, line_of, written};
 
+// The digit of a value. By hand: `{:02X}` writes through a formatter, and `char::from_digit` gives lower case and a char.
 fn digit_of(value: u8) -> u8
     requires { value < 16 }
     ensures the_digit_of_the_value { result ≡ digit_of value }
@@ -27,6 +28,7 @@ pub(crate) fn write_line(bytes: &[u8], out: &mut [u8])
     ensures the_line_is_written { out.new ≡ written out.old 0 (line_of bytes.now) }
     ensures all_are_bytes { AllByRecursion (λ b. b < 256) bytes.now }
 {
+    // the place is counted: after a loop over `chunks_exact_mut` a proof does not know what was written
     for (i, byte) in bytes.iter().enumerate() {
         let behind = if i + 1 == bytes.len() { b'\n' } else { b' ' };
         out[3 * i..3 * i + 3].copy_from_slice(&trio(*byte, behind));

@@ -13,6 +13,7 @@ use sheets::sheet::Sheet;
 use track::refusal::Refusal;
 
 // The kinds of the lines that are printed: for each train, for the total, and for a refusal.
+// Three numbers and no enum: each is only written, and nothing asks which of them a line is.
 const TRAIN: u8 = 0x10;
 
 const TOTAL: u8 = 0x11;
@@ -30,16 +31,15 @@ fn train_bytes(number: u16, sections: &[u8; 17]) -> [u8; 20]
     bytes
 }
 
-// The bytes of the line of the total, at a cost of so many bytes.
-#[tactic(auto, using(crate::proofs::Buffers::total_front))]
-fn total_bytes(cost: [u8; 4], width: usize, groups: u8) -> [u8; 6]
-    requires { width ≤ 4 }
-    ensures the_cost_and_the_groups { take (width + 2) result ≡ total_bytes (take width cost) groups }
+// The bytes of the line of the total, from the bytes of the cost.
+fn total_bytes(cost: &[u8], groups: u8) -> [u8; 6]
+    requires { length cost.now ≤ 4 }
+    ensures the_cost_and_the_groups { take (length cost.now + 2) result ≡ total_bytes cost.now groups }
 {
     let mut bytes = [0; 6];
     bytes[0] = TOTAL;
-    bytes[1..5].copy_from_slice(&cost);
-    bytes[1 + width] = groups;
+    bytes[1..1 + cost.len()].copy_from_slice(cost);
+    bytes[1 + cost.len()] = groups;
     bytes
 }
 
@@ -50,6 +50,7 @@ fn write_trains(roster: &Roster, sheet: &Sheet, steps: usize, out: &mut [u8])
     ensures their_lines_are_written { out.new ≡ written out.old 0 (text (train_lines roster.now sheet.now steps (rows_of roster.now))) }
     ensures each_can_be_read_again { AllByRecursion ReadsBack (train_lines roster.now sheet.now steps (rows_of roster.now)) }
 {
+    // the place is counted by the row: after a loop over `chunks_exact_mut` a proof does not know what was written
     for (row, train) in roster.trains().iter().enumerate() {
         let bytes = train_bytes(train.number, &sheet.rows[row]);
         write_line(&bytes[..4 + steps], &mut out[row * (3 * (4 + steps))..]);
@@ -95,7 +96,7 @@ pub fn print_plan<S: PrintedScale>(
         return Err(Refusal::WritingPlaceTooShort);
     }
     write_trains(roster, sheet, last, out);
-    let bytes = total_bytes(shown, width, groups);
+    let bytes = total_bytes(&shown[..width], groups);
     write_line(&bytes[..width + 2], &mut out[front..]);
     Ok(length)
 }

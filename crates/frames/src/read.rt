@@ -39,11 +39,8 @@ fn first_wrong(line: &[u8]) -> Option<u8>
     ensures the_first_wrong_place { result ≡ fault_from 0 line.now }
 {
     let right = right_bytes(line);
-    if right == line.len() && right % 3 == 2 {
-        None
-    } else {
-        Some(right as u8)
-    }
+    let whole = right == line.len() && right % 3 == 2;
+    (!whole).then_some(right as u8)
 }
 
 // The place of the first fault of a line, if it has one: a line holds 1 to 64 bytes.

@@ -1,4 +1,4 @@
-use Rattle.std.proofs.Common.{◌≡◌, ℕ, ◌+◌, ◌*◌, ◌<◌, List, length, min, take, refl, ap, ◌∙◌, subst, arith, rules}
+use Rattle.std.proofs.Common.{◌≡◌, ℕ, ◌+◌, ◌*◌, ◌<◌, List, length, min, take, sym, refl, ap, ◌∙◌, subst, arith, rules}
 use Rattle.std.specs.List.{AllByRecursion}
 use Rattle.frames.specs.Text.{line_of, text, written}
 use Rattle.frames.specs.Replies.{total_bytes, plan_lines}
@@ -49,7 +49,8 @@ returns g c =
     let long : length xs ≡ n = length_plan o s c.args.steps cost c.args.groups last count width capped rows wide in
     let total = total_bytes cost c.args.groups in
     let bytes : take (width + 2) c.total_bytes-bytes.result ≡ total =
-    c.total_bytes-bytes.ensures.the_cost_and_the_groups
+    ap (λ (k : ℕ). take (k + 2) c.total_bytes-bytes.result) (wide ∙ sym (ap length c.write_bytes-width.ensures.the_bytes_of_the_cost))
+    ∙ c.total_bytes-bytes.ensures.the_cost_and_the_groups
     ∙ ap (λ (z : List ℕ). total_bytes z c.args.groups) c.write_bytes-width.ensures.the_bytes_of_the_cost in
     let many = length_total o s c.args.steps cost c.args.groups last count width capped rows wide in
     let small : AllByRecursion (λ b. b < 256) total = subst (λ (bs : List ℕ). AllByRecursion (λ b. b < 256) bs) bytes c.write_line.ensures.all_are_bytes in
