@@ -49,6 +49,6 @@ impl Parts {
         ensures the_rows_of_its_part { marked result ≡ part (marked group) (naming self.now) (naming self.now row) }
     {
         let name = self.name(row);
-        array::from_fn(|p| group[p] & (self.names[p] == name))
+        array::from_fn(|p| group[p] && self.names[p] == name)
     }
 }

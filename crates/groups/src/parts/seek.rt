@@ -1,6 +1,5 @@
-ghost use Rattle.std.specs.Prelude.{◌≡◌, ◌+◌, ◌<◌, not, ◌&&◌, MatchOption, ◌==◌};
+ghost use Rattle.std.specs.Prelude.{◌≡◌, ◌+◌, ◌<◌, not, ◌&&◌, MatchOption, ◌==◌, slice_index};
 ghost use Rattle.roster.specs.Model.{rows_of};
-ghost use Rattle.sheets.specs.Plan.{clash};
 ghost use Rattle.sheets.specs.Inquiry.{problem_of, plan_of};
 ghost use Rattle.sheets.specs.Posing.{marked};
 ghost use Rattle.groups.specs.Parts.{parts, NoClash, FirstClash};
@@ -13,33 +12,19 @@ use rules::rule::Rule;
 use sheets::question::Question;
 use sheets::sheet::Sheet;
 
-// The move of a row in the step that begins at the time `step`.
-fn move_in(sheet: &Sheet, step: usize, row: usize) -> Move
-    requires a_step { step < 16 }
-    requires a_row { row < 8 }
-    ensures it_begins_where_the_row_stands { result.from ≡ plan_of sheet.now row step }
-    ensures it_ends_where_the_row_stands_next { result.to ≡ plan_of sheet.now row (step + 1) }
-{
-    let sections = sheet.rows[row];
-    Move::new(sections[step], sections[step + 1])
-}
-
-// Whether the moves of two rows in the step that begins at the time `step` conflict.
+// Whether the moves of two trains in the step that begins at the time `step` conflict, by where they stand at each time.
 fn clashes<R: Rule>(
     rule: &R,
     question: &Question,
-    sheet: &Sheet,
+    one: &[u8; 17],
+    other: &[u8; 17],
     step: usize,
-    row: usize,
-    other: usize,
 ) -> bool
-    requires a_step { step < 16 }
-    requires a_row { row < 8 }
-    requires another_row { other < 8 }
-    ensures whether_their_moves_conflict { result ≡ clash (problem_of (R.Rule.conflicts rule.now question.now.layout.now) question.now.layout.now question.now.roster.now question.now.steps) (plan_of sheet.now) step row other }
+    requires { step < 16 }
+    ensures whether_their_moves_conflict { result ≡ R.Rule.conflicts rule.now question.now.layout.now (slice_index one.now step) (slice_index one.now (step + 1)) (slice_index other.now step) (slice_index other.now (step + 1)) }
 {
-    let one = move_in(sheet, step, row);
-    let other = move_in(sheet, step, other);
+    let one = Move::new(one[step], one[step + 1]);
+    let other = Move::new(other[step], other[step + 1]);
     rule.conflict(question.layout, one, other)
 }
 
@@ -58,7 +43,7 @@ impl Parts {
         ensures one_for_each_row_that_its_part_goes_by { result ≡ parts (rows_of question.now.roster.now) (marked question.now.group) (naming self.now) }
     {
         (0..question.roster.count())
-            .filter(|&row| question.group[row] & (self.names[row] == row))
+            .filter(|&row| question.group[row] && self.names[row] == row)
             .count()
     }
 
@@ -78,7 +63,7 @@ impl Parts {
                 for row in 0..rows {
                     for other in row + 1..rows {
                         if self.apart(question.group, row, other)
-                            && clashes(rule, question, sheet, step, row, other)
+                            && clashes(rule, question, &sheet.rows[row], &sheet.rows[other], step)
                         {
                             break 'seek Some(Conflict { step, row, other });
                         }

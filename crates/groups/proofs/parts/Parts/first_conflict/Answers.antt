@@ -7,8 +7,8 @@ use Rattle.groups.proofs.Seeking.{hit, others_more, no_hit_apart, no_hit_clash, 
 use Rattle.groups.proofs.parts.Parts.first_conflict.Goals as goal
 use Rattle.groups.proofs.parts.Parts.first_conflict.Goals.{else-apart-via-then-apart+else-clashes, else-apart-via-else-apart}
 
-pub clashes-requires-clause-a_step : goal.clashes-requires-clause-a_step
-clashes-requires-clause-a_step g c = omega (arith, (sound c.args.question.now).steps_most)
+pub clashes-requires : goal.clashes-requires
+clashes-requires g c = omega (arith, (sound c.args.question.now).steps_most)
 
 pub loop-other-preserved : goal.loop-other-preserved
 loop-other-preserved g c =
