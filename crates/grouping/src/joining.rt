@@ -1,12 +1,11 @@
 ghost use Rattle.std.specs.Prelude.{◌≡◌, ℕ, ◌<◌, length};
 ghost use Rattle.roster.specs.Model.{rows_of};
 ghost use Rattle.sheets.specs.Posing.{marked};
-ghost use Rattle.sheets.specs.Inquiry.{Inquiry, inquired};
-ghost use Rattle.sheets.specs.Theorems.{Same};
+ghost use Rattle.sheets.specs.Inquiry.{inquired};
 ghost use Rattle.search.specs.Answers.{Answered, OthersKept};
 ghost use Rattle.groups.specs.Parts.{alone};
 ghost use Rattle.grouping.specs.Ends.{about, Told};
-ghost use Rattle.grouping.specs.Asking.{SomeRows, OrEnds, Stand, EndsIn};
+ghost use Rattle.grouping.specs.Asking.{SameMeaning, SomeRows, OrEnds, Stand, EndsIn};
 
 use groups::parts::Parts;
 use rules::rule::Rule;
@@ -30,7 +29,7 @@ fn ask_for<S: Scale, R: Rule, Q: Search<S>>(
     draft: &mut Sheet,
 ) -> Answer<S::Cost>
     requires some_rows { SomeRows asked.now.question.now marks }
-    ensures asking_leaves_the_meaning { (i : Inquiry S.Cost) (n : ℕ) → Same (Q.Search.takes below.new i n) (Q.Search.takes below.old i n) }
+    ensures asking_leaves_the_meaning { SameMeaning (Q.Search.takes below.new) (Q.Search.takes below.old) }
     ensures the_answer_is_right { Answered (about (inquired R.Rule.conflicts S.Scale.measure asked.now) (marked marks)) (Q.Search.takes below.old (about (inquired R.Rule.conflicts S.Scale.measure asked.now) (marked marks)) (length cells.old)) draft.old draft.new result }
 {
     let question = asked.question;
@@ -63,7 +62,7 @@ fn ask_each_alone<S: Scale, R: Rule, Q: Search<S>>(
     cells: &mut [Option<S::Cost>],
     draft: &mut Sheet,
 ) -> Answer<()>
-    ensures asking_leaves_the_meaning { (i : Inquiry S.Cost) (n : ℕ) → Same (Q.Search.takes below.new i n) (Q.Search.takes below.old i n) }
+    ensures asking_leaves_the_meaning { SameMeaning (Q.Search.takes below.new) (Q.Search.takes below.old) }
     ensures each_stands_or_the_course_has_ended { OrEnds (Q.Search.takes below.old) (inquired R.Rule.conflicts S.Scale.measure asked.now) (length cells.old) (λ _. Stand (Q.Search.takes below.old) (inquired R.Rule.conflicts S.Scale.measure asked.now) (length cells.old) alone draft.new) result }
     ensures other_places_are_as_they_were { OthersKept (inquired R.Rule.conflicts S.Scale.measure asked.now) draft.old draft.new }
 {
@@ -87,7 +86,7 @@ fn join_conflicting<S: Scale, R: Rule, Q: Search<S>>(
     draft: &mut Sheet,
 ) -> Answer<usize>
     requires each_alone_stands { Stand (Q.Search.takes below.old) (inquired R.Rule.conflicts S.Scale.measure asked.now) (length cells.old) alone draft.old }
-    ensures asking_leaves_the_meaning { (i : Inquiry S.Cost) (n : ℕ) → Same (Q.Search.takes below.new i n) (Q.Search.takes below.old i n) }
+    ensures asking_leaves_the_meaning { SameMeaning (Q.Search.takes below.new) (Q.Search.takes below.old) }
     ensures so_many_groups_stand_or_the_course_has_ended { OrEnds (Q.Search.takes below.old) (inquired R.Rule.conflicts S.Scale.measure asked.now) (length cells.old) (λ n. EndsIn (Q.Search.takes below.old) (inquired R.Rule.conflicts S.Scale.measure asked.now) (length cells.old) draft.new n) result }
     ensures other_places_are_as_they_were { OthersKept (inquired R.Rule.conflicts S.Scale.measure asked.now) draft.old draft.new }
 {
@@ -108,7 +107,7 @@ pub(crate) fn follow<S: Scale, R: Rule, Q: Search<S>>(
     cells: &mut [Option<S::Cost>],
     sheet: &mut Sheet,
 ) -> Answer<(S::Cost, usize)>
-    ensures asking_leaves_the_meaning { (i : Inquiry S.Cost) (n : ℕ) → Same (Q.Search.takes below.new i n) (Q.Search.takes below.old i n) }
+    ensures asking_leaves_the_meaning { SameMeaning (Q.Search.takes below.new) (Q.Search.takes below.old) }
     ensures the_answer_is_how_the_course_ends { Told (Q.Search.takes below.old) (inquired R.Rule.conflicts S.Scale.measure asked.now) (length cells.old) sheet.old sheet.new result }
 {
     let mut draft = *sheet;

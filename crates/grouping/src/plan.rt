@@ -1,6 +1,6 @@
-ghost use Rattle.std.specs.Prelude.{◌≡◌, ℕ, length};
-ghost use Rattle.sheets.specs.Inquiry.{Inquiry, inquired};
-ghost use Rattle.sheets.specs.Theorems.{Same};
+ghost use Rattle.std.specs.Prelude.{◌≡◌, length};
+ghost use Rattle.sheets.specs.Inquiry.{inquired};
+ghost use Rattle.grouping.specs.Asking.{SameMeaning};
 ghost use Rattle.grouping.specs.Ends.{Told, OneOutcome, ExistsWhereDecided, RightForAll, BestTogether, NoneForAll};
 
 use crate::grouping::Grouping;
@@ -13,7 +13,7 @@ use sheets::asked::Asked;
 use sheets::sheet::Sheet;
 
 impl<Q> Grouping<Q> {
-    // A grouping over a search.
+    // A grouping over a search. `Check` has the like: the type of a layer tells which it is, and a shared constructor would be no plainer.
     pub fn over(below: Q) -> Grouping<Q>
         ensures it_asks_that_search { result.below ≡ below }
     {
@@ -29,7 +29,7 @@ impl<Q> Grouping<Q> {
     ) -> Answer<(S::Cost, usize)>
     where
         Q: Search<S>,
-        ensures asking_leaves_the_meaning { (i : Inquiry S.Cost) (n : ℕ) → Same (Q.Search.takes self.new.below i n) (Q.Search.takes self.old.below i n) }
+        ensures asking_leaves_the_meaning { SameMeaning (Q.Search.takes self.new.below) (Q.Search.takes self.old.below) }
         ensures the_answer_is_how_the_course_ends { Told (Q.Search.takes self.old.below) (inquired R.Rule.conflicts S.Scale.measure asked.now) (length cells.old) sheet.old sheet.new result }
         ensures a_course_has_one_outcome { OneOutcome (Q.Search.takes self.old.below) (inquired R.Rule.conflicts S.Scale.measure asked.now) (length cells.old) }
         ensures a_course_exists_where_taking_is_decided { ExistsWhereDecided (Q.Search.takes self.old.below) (inquired R.Rule.conflicts S.Scale.measure asked.now) (length cells.old) }

@@ -1,4 +1,4 @@
-// The reply to a line that is not declined.
+// The reply to a line that is not declined. No Option: `Done` is a reply, which `None` would not say, and a plan has three parts with names.
 #[derive(Clone, Copy)]
 pub enum Said<C> {
     Done,

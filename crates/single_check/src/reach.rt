@@ -26,6 +26,7 @@ fn spread(layout: &Layout, roster: &Roster, reached: &mut [bool; 32])
     ensures one_step_outward { Widened reached.old (OnwardFrom layout.now roster.now reached.old) reached.new }
 {
     let before = *reached;
+    // the cast is proved to lose nothing; with `(0u8..).zip(before)` the proof did not close: open was that the number is that of the item
     for (a, marked) in before.iter().enumerate() {
         if *marked {
             mark_neighbours(layout, roster, a as u8, reached);

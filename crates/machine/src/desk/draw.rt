@@ -13,6 +13,7 @@ use scales::scale::Scale;
 use search::search::Search;
 use track::refusal::Refusal;
 
+// The three calls that draw only hand on: each is here for its clause, which says what the reply is worth for the whole machine.
 impl<R: Rule, S: Scale, Q: Search<S>> Desk<R, S, Q> {
     pub(crate) fn add_sections(&mut self, k: u8) -> Result<(), Refusal>
         ensures the_reply_is_kept { (rule : R) (scale : S) (below : Q) (s : Sheet) → TurnOwes (meaning R.Rule.conflicts S.Scale.measure Q.Search.takes) rule scale below (IsDrawing self.old) (sections k) (says_done result) s s (IsDrawing self.new) }
