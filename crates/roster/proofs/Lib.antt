@@ -5,3 +5,4 @@ pub mod Digits
 pub mod Masks
 pub mod Laws
 pub mod Making
+pub mod Order

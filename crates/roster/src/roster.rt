@@ -11,6 +11,7 @@ mod table;
 // A closed section is under possession: work goes on there, and no train may enter it.
 // Each train has a row, counted from 0. The bit `k` of `closed` is set where the section `k` is closed.
 // The trains are the first `count` of a fixed table: a roster has 8 at most, and no call may fail for want of memory.
+// The kit's `arrayvec` would hold both in one, but its statements would then be trusted.
 #[derive(Drop)]
 pub struct Roster {
     count: usize,

@@ -12,6 +12,7 @@ pub trait PrintedScale: Scale {
     ghost shown: { Self → Self.Cost → List ℕ };
 
     // Writes the bytes of the cost to the front of `out`, and says how many they are.
+    // The bytes are lent and their number is told: a `Vec` could fail for want of memory, and the kit's `arrayvec` would be trusted.
     fn write_bytes(&self, cost: Self::Cost, out: &mut [u8; 4]) -> usize
         ensures so_many_bytes { result ≡ length (shown self.now cost) }
         ensures no_more_than_four { result ≤ 4 }

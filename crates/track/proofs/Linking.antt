@@ -35,7 +35,7 @@ found_any : (ls : List Link) (a b : ℕ) → is_some (points_of ls a b) ≡ list
 found_any [] a b = refl
 found_any (l ∷ ls) a b = found_under (joins l a b) l (find (λ (k : Link). joins k a b) ls) (list_any (λ (k : Link). joins k a b) ls) (found_any ls a b)
 
-pub linked_any : (ls : List Link) (a b : ℕ) → list_any (λ (l : Link). joins l a b) ls ≡ linked_either ls a b
+linked_any : (ls : List Link) (a b : ℕ) → list_any (λ (l : Link). joins l a b) ls ≡ linked_either ls a b
 linked_any ls a b =
     sym (found_any ls a b) ∙ sym (or_self (is_some (points_of ls a b)))
     ∙ ap (λ (o : Option ℕ). is_some (points_of ls a b) || is_some o) (points_turned ls a b)

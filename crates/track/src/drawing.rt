@@ -13,6 +13,7 @@ pub mod read;
 pub struct Drawing {
     sections: u8,
     // Each table has a fixed size, and a count of what is filled: no call may fail for want of memory.
+    // The kit's `arrayvec` would hold both in one, but its statements would then be trusted.
     link_count: usize,
     links: [Link; 64],
     foul_count: usize,

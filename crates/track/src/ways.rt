@@ -8,6 +8,7 @@ pub mod find;
 pub struct Ways {
     points: [Option<u8>; 32],
     // The table has a fixed size, and a count of what is filled: no call may fail for want of memory.
+    // The kit's `arrayvec` would hold both in one, but its statements would then be trusted.
     count: usize,
     ends: [u8; 32],
     ghost room: { count ≤ 32 },

@@ -4,6 +4,8 @@ ghost use Rattle.roster.specs.Trains.{no_number, has as holds};
 
 use crate::train::Train;
 
+// The whole table is lent, with the count: a part of a field of a struct with an invariant cannot be lent yet.
+
 // Puts `t` at `p` into the first `n` places, and moves those after it up by one.
 pub(super) fn insert_at(table: &mut [Train; 8], n: usize, p: usize, t: Train)
     requires room { n < 8 }

@@ -14,6 +14,7 @@ impl Ways {
         let points = points_from(links, a);
         let mut ends = [0; 32];
         let mut count = 0;
+        // A loop by place: std's chains fill an array whole, by a call for each place, and here only the front is filled.
         for (place, b) in (0..32u8)
             .filter(|b| way_to(&points, *b).is_some())
             .enumerate()
@@ -50,14 +51,14 @@ fn way_to(points: &[Option<u8>; 32], b: u8) -> Option<u8>
     *points.get(usize::from(b))?
 }
 
-// The points on the way from `a` to each section.
+// The points on the way from `a` to each section. `as` is proved to lose nothing here.
 fn points_from(links: &[Link], a: u8) -> [Option<u8>; 32]
     ensures the_points_to_each_section { result ≡ points_along links.now a }
 {
     array::from_fn(|b| points_in(links, a, b as u8))
 }
 
-// The ways from each section over the links.
+// The ways from each section over the links. `as` is proved to lose nothing here.
 pub(crate) fn chart(links: &[Link]) -> [Ways; 32]
     ensures the_ways_from_each_section { map (λ (w : Ways). w.points) result ≡ charted links.now }
 {
