@@ -58,14 +58,14 @@ impl Roster {
         )
     }
 
-    // `number_taken`, `start_taken` and `goal_taken` are one chain over three fields: a function that takes the field as a
-    // closure would make each call longer and the three bodies no shorter.
     pub(super) fn number_taken(&self, number: u16) -> bool
         ensures whether_a_train_has_the_number { result ≡ taken number_of number (held self.now) }
     {
-        self.trains().iter().any(|train| train.number == number)
+        self.find(number).is_some()
     }
 
+    // `start_taken` and `goal_taken` are one chain over two fields: a function that takes the field as a closure would make
+    // the calls longer and the two bodies no shorter.
     pub(super) fn start_taken(&self, section: u8) -> bool
         ensures whether_a_train_has_the_start { result ≡ taken start_of section (held self.now) }
     {
@@ -92,7 +92,7 @@ impl Roster {
         ensures the_first_row_with_the_number { result ≡ place_from 0 number (held self.now) }
     {
         self.trains()
-            .iter()
-            .position(|train| train.number == number)
+            .binary_search_by_key(&number, |train| train.number)
+            .ok()
     }
 }
