@@ -1,10 +1,14 @@
 -- What holds of the front of a list, told by its places.
-use Rattle.std.proofs.Common.{◌≡◌, ℕ, zero, suc, ◌+◌, ◌≤◌, Bool, true, false, cond, ◌&&◌, List, [], ◌∷◌, length, get_or, take, sym, refl, ap, ◌∙◌, ap₂, add-one, arith}
+use Rattle.std.proofs.Common.{◌≡◌, ℕ, zero, suc, ◌+◌, ◌≤◌, Bool, true, false, cond, not, ◌&&◌, ◌||◌, ltb, List, [], ◌∷◌, length, get_or, take, drop, sym, refl, ap, ◌∙◌, ap₂, add-one, arith}
 use Rattle.std.specs.List.{list_all, count_by}
 use Rattle.std.specs.Cmp.Lexicographic.{pointwise}
 use Rattle.std.proofs.lemmas.List.Sums.{count_by_more_yes, count_by_more_no}
 use Rattle.std.proofs.lemmas.Bool.Decides.{nat_tests}
+use Rattle.std.proofs.Math.Seq.{take-length}
+use Rattle.std.specs.List.{range_with_len}
+use Rattle.std.proofs.lemmas.List.FromFn.{length-range_with_len, get_or-range_with_len}
 use Rattle.sheets.specs.Problem.{all, count}
+use Rattle.sheets.proofs.Alls.{all_same}
 
 -- the first number apart from the others
 and_turned : (a b c : Bool) → ((a && b) && c) ≡ (a && (b && c))
@@ -32,3 +36,30 @@ front_same e xs ys zero h k = refl
 front_same e [] ys (suc n) h k = absurd (omega arith)
 front_same e (x ∷ xs) [] (suc n) h k = absurd (omega arith)
 front_same e (x ∷ xs) (y ∷ ys) (suc n) h k = ap (λ b. e x y && b) (front_same e xs ys n (omega arith) (omega arith)) ∙ sym (all_front n (λ i. e (get_or (x ∷ xs) i 0) (get_or (y ∷ ys) i 0)))
+
+not_first : (b : Bool) (r : ℕ) → not b ≡ (not b || ltb r 0)
+not_first b r = grind (arith, nat_tests)
+
+not_next : (b : Bool) (r n : ℕ) → (not b || ltb r n) ≡ (not b || ltb (suc r) (suc n))
+not_next b r n = grind (arith, nat_tests)
+
+below : (b : Bool) (n : ℕ) (rest : Bool) → rest ≡ ((not b || ltb zero (suc n)) && rest)
+below b n rest = grind (arith, nat_tests)
+
+-- none of the marks from the place n on is set
+pub back_none : (xs : List Bool) (n : ℕ) → n ≤ length xs → list_all not (drop n xs) ≡ all (length xs) (λ r. not (get_or xs r false) || ltb r n)
+back_none xs zero h =
+    ap (list_all not) (sym (take-length xs)) ∙ front_all not xs false (length xs) (omega arith)
+    ∙ all_same (length xs) _ _ (λ r l. not_first (get_or xs r false) r)
+back_none [] (suc n) h = absurd (omega arith)
+back_none (x ∷ xs) (suc n) h =
+    back_none xs n (omega arith) ∙ all_same (length xs) _ _ (λ r l. not_next (get_or xs r false) r n)
+    ∙ below x n _ ∙ sym (all_front (length xs) (λ r. not (get_or (x ∷ xs) r false) || ltb r (suc n)))
+
+-- the numbers below n, one after the other
+pub range_all : (n : ℕ) (f : ℕ → Bool) → list_all f (range_with_len 0 n) ≡ all n f
+range_all n f =
+    let xs = range_with_len 0 n in
+    ap (list_all f) (sym (take-length xs)) ∙ front_all f xs 0 (length xs) (omega arith)
+    ∙ ap (λ (k : ℕ). all k (λ i. f (get_or xs i 0))) (length-range_with_len 0 n)
+    ∙ all_same n _ _ (λ i l. let here : get_or xs i 0 ≡ i = omega (arith, get_or-range_with_len 0 n i 0 l) in ap f here)

@@ -34,6 +34,10 @@ problem_of conflicts l o steps = record {
   conflicts = conflicts;
 }
 
+-- the problem that a question asks, under the conflicts of a rule
+abbrev pub problem_asked : Conflicts → Question → Problem
+problem_asked conflicts q = problem_of conflicts q.layout.now q.roster.now q.steps
+
 -- what a search is asked: the scale's measure, the problem, and the group
 pub record Inquiry (C : Type 0) : Type 0 where
   pub measure : Measure C

@@ -22,13 +22,9 @@ fn same_rows(question: &Question, a: &Sheet, b: &Sheet) -> bool
     ensures whether_the_rows_of_the_group_are_the_same { result ≡ same_rows (rows_of question.now.roster.now) question.now.steps (marked question.now.group) (plan_of a.now) (plan_of b.now) }
 {
     // a row numbers the marks and both sheets alike, so it is counted
-    for row in 0..question.roster.count() {
-        let same = same_row(a.rows[row], b.rows[row], question.steps + 1);
-        if question.group[row] & !same {
-            return false;
-        }
-    }
-    true
+    let times = question.steps + 1;
+    (0..question.roster.count()).all(|row| !question.group[row]
+        || same_row(a.rows[row], b.rows[row], times))
 }
 
 // Whether two sheets count as one for the question: they differ nowhere in the group's rows at times 0 to the last.

@@ -29,13 +29,7 @@ fn all_on(layout: &Layout, roster: &Roster) -> bool
 fn all_rows(roster: &Roster, group: [bool; 8]) -> bool
     ensures whether_all_marks_are_rows { result ≡ all_rows roster.now group }
 {
-    let rows = roster.count();
-    for (row, marked) in group.iter().enumerate() {
-        if *marked && row >= rows {
-            return false;
-        }
-    }
-    true
+    group[roster.count()..].iter().all(|marked| !*marked)
 }
 
 fn members(roster: &Roster, group: [bool; 8]) -> usize

@@ -5,7 +5,7 @@ ghost use Rattle.scales.specs.Measure.{joined};
 ghost use Rattle.roster.specs.Model.{seen};
 ghost use Rattle.sheets.specs.Plan.{cost, row_cost};
 ghost use Rattle.sheets.specs.Posing.{marked};
-ghost use Rattle.sheets.specs.Inquiry.{over, problem_of, plan_of};
+ghost use Rattle.sheets.specs.Inquiry.{over, problem_asked, plan_of};
 
 use crate::question::Question;
 use crate::sheet::Sheet;
@@ -23,24 +23,22 @@ pub fn run_over(layout: &Layout, a: u8, b: u8) -> u8
     layout.points(a, b).unwrap_or(0)
 }
 
-// What the steps of a train that stands in these sections, at times 0 to `steps`, cost.
-fn steps_cost<S: Scale>(
-    scale: &S,
-    layout: &Layout,
-    sections: [u8; 17],
-    goal: u8,
-    steps: usize,
-) -> S::Cost
-    requires { steps ≤ 16 }
-    ensures the_prices_of_the_steps_joined { result ≡ joined (S.Scale.measure scale.now) steps (λ t. (S.Scale.measure scale.now).price (over layout.now (slice_index sections t) (slice_index sections (t + 1))) (slice_index sections t == goal && slice_index sections (t + 1) == goal)) }
+// The price of a move from a to b, of a train with this goal.
+pub fn move_price<S: Scale>(scale: &S, layout: &Layout, a: u8, b: u8, goal: u8) -> S::Cost
+    ensures the_price_of_its_points_and_of_standing_at_the_goal { result ≡ (S.Scale.measure scale.now).price (over layout.now a b) (a == goal && b == goal) }
+{
+    scale.price(run_over(layout, a, b), a == goal && b == goal)
+}
+
+// What the steps of a question cost for a train that stands in these sections, one time after the other.
+fn steps_cost<S: Scale>(scale: &S, question: &Question, sections: [u8; 17], goal: u8) -> S::Cost
+    ensures the_prices_of_the_steps_joined { result ≡ joined (S.Scale.measure scale.now) question.now.steps (λ t. (S.Scale.measure scale.now).price (over question.now.layout.now (slice_index sections t) (slice_index sections (t + 1))) (slice_index sections t == goal && slice_index sections (t + 1) == goal)) }
 {
     let mut total = scale.nothing();
     let mut at = sections[0];
-    for to in &sections[1..steps + 1] {
-        let to = *to;
-        let price = scale.price(run_over(layout, at, to), (at == goal) & (to == goal));
-        total = scale.join(total, price);
-        at = to;
+    for to in &sections[1..=question.steps] {
+        total = scale.join(total, move_price(scale, question.layout, at, *to, goal));
+        at = *to;
     }
     total
 }
@@ -55,18 +53,17 @@ fn row_cost<S: Scale>(
 ) -> S::Cost
     requires the_train_of_the_row { slice_get (seen question.now.roster.now).trains row ≡ Some train }
     requires of_the_sheet { row < 8 }
-    ensures its_steps_or_nothing { (k : Conflicts) → result ≡ (if marked question.now.group row then row_cost (S.Scale.measure scale.now) (problem_of k question.now.layout.now question.now.roster.now question.now.steps) (plan_of sheet.now) row else (S.Scale.measure scale.now).nothing) }
+    ensures its_steps_or_nothing { (k : Conflicts) → result ≡ (if marked question.now.group row then row_cost (S.Scale.measure scale.now) (problem_asked k question.now) (plan_of sheet.now) row else (S.Scale.measure scale.now).nothing) }
 {
     if !question.group[row] {
         return scale.nothing();
     }
-    let sections = sheet.rows[row];
-    steps_cost(scale, question.layout, sections, train.goal, question.steps)
+    steps_cost(scale, question, sheet.rows[row], train.goal)
 }
 
 // What a sheet costs for the question's group.
 pub fn sheet_cost<S: Scale>(scale: &S, question: &Question, sheet: &Sheet) -> S::Cost
-    ensures the_prices_of_all_steps_of_the_group_joined { (k : Conflicts) → result ≡ cost (S.Scale.measure scale.now) (problem_of k question.now.layout.now question.now.roster.now question.now.steps) (marked question.now.group) (plan_of sheet.now) }
+    ensures the_prices_of_all_steps_of_the_group_joined { (k : Conflicts) → result ≡ cost (S.Scale.measure scale.now) (problem_asked k question.now) (marked question.now.group) (plan_of sheet.now) }
 {
     let mut total = scale.nothing();
     for (row, train) in question.roster.trains().iter().enumerate() {

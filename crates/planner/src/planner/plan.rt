@@ -19,6 +19,7 @@ use track::refusal::Refusal;
 
 impl<R, S, Q> Planner<R, S, Q> {
     // Whether a plan of so many steps may be made with so many cells.
+    // The conditions stand together in the order of the book, though the question asks the first two again.
     fn check_plan(&self, steps: usize, cells: usize) -> Result<(), Refusal>
         ensures the_first_condition_met_declines { refused_by result ≡ declined (sections_of self.now.layout) (seen self.now.roster) (plan steps cells) }
     {

@@ -5,11 +5,7 @@ use Rattle.scales.specs.Measure.{joined}
 use Rattle.roster.specs.Model.{held, no_train, goal_at}
 use Rattle.sheets.specs.Inquiry.{over}
 use Rattle.sheets.specs.Plan.{row_cost}
-use Rattle.sheets.proofs.Posed.{sound}
 use Rattle.sheets.proofs.price.row_cost.Goals as goal
-
-pub steps_cost-requires : goal.steps_cost-requires
-steps_cost-requires g c = (sound c.args.question.now).steps_most
 
 pub returns : goal.returns
 unfolding row_cost goal_at

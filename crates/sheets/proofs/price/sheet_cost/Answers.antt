@@ -6,7 +6,7 @@ use Rattle.scales.specs.Measure.{joined}
 use Rattle.scales.proofs.Joins.{joined_more}
 use Rattle.sheets.specs.Plan.{cost, row_cost}
 use Rattle.sheets.specs.Posing.{marked}
-use Rattle.sheets.specs.Inquiry.{problem_of, plan_of}
+use Rattle.sheets.specs.Inquiry.{problem_asked, plan_of}
 use Rattle.sheets.proofs.price.sheet_cost.Goals as goal
 
 pub row_cost-part-requires : goal.row_cost-part-requires
@@ -31,5 +31,5 @@ returns g c = record {
       let q = c.args.question.now in
       let e : c.loop-row.row ≡ rows_of q.roster.now = omega (arith, c.trains-train-items.ensures.as_many_as_there_are_rows) in
       c.loop-row.invariant k
-      ∙ ap (λ (n : ℕ). joined S n (λ r. cond (marked q.group r) (row_cost S (problem_of k q.layout.now q.roster.now q.steps) (plan_of c.args.sheet.now) r) S.nothing)) e;
+      ∙ ap (λ (n : ℕ). joined S n (λ r. cond (marked q.group r) (row_cost S (problem_asked k q) (plan_of c.args.sheet.now) r) S.nothing)) e;
 }

@@ -6,5 +6,5 @@ use Rattle.sheets.proofs.price.steps_cost.Given as goal
 abbrev pub invariant-loop-to : goal.invariant-loop-to
 invariant-loop-to g l = record {
   stands : l.at ≡ get_or l.fn.sections l.to-index 0;
-  joined_so_far : l.total ≡ joined (g.S.Scale.measure l.scale) l.to-index (λ t. (g.S.Scale.measure l.scale).price (over l.layout (get_or l.fn.sections t 0) (get_or l.fn.sections (t + 1) 0)) (eqb (get_or l.fn.sections t 0) l.goal && eqb (get_or l.fn.sections (t + 1) 0) l.goal));
+  joined_so_far : l.total ≡ joined (g.S.Scale.measure l.scale) l.to-index (λ t. (g.S.Scale.measure l.scale).price (over l.question.layout.now (get_or l.fn.sections t 0) (get_or l.fn.sections (t + 1) 0)) (eqb (get_or l.fn.sections t 0) l.goal && eqb (get_or l.fn.sections (t + 1) 0) l.goal));
 }
