@@ -11,7 +11,7 @@ pub struct Case {
     pub far: u8,
     pub trains: usize,
     pub steps: usize,
-    // whether the walk is asked too: its work grows with the number of sheets
+    // whether the walk is asked too: its work grows with the number of sheets. A yes or no of the case: an enum of two names would be no plainer
     pub walked: bool,
     ghost few: { trains ≤ 3 },
 }

@@ -20,6 +20,8 @@ use walk::walk::Walk;
 mod case;
 
 // Two trains that change places over a ring 1-2-3-4, to which 0-1 leads.
+// The tests of the searches have this ring, these trains and this blank sheet too: two test crates share no crate of their own, and a test is no
+// plainer where its expected values lie in another crate than what they follow from.
 const CHANGE: Case = Case {
     sections: 5,
     links: &[(0, 1, 0), (1, 2, 2), (2, 3, 1), (1, 4, 1), (3, 4, 1)],
@@ -66,6 +68,7 @@ const BLANK: Sheet = Sheet {
 fn written(rows: &[&[u8]]) -> Sheet {
     let mut sheet = BLANK;
     for (row, sections) in sheet.rows.iter_mut().zip(rows) {
+        // copying the slice as a whole would be no plainer: it asks for a `requires` that each of the rows is short
         for (place, section) in row.iter_mut().zip(*sections) {
             *place = *section;
         }

@@ -24,6 +24,8 @@ use track::refusal::Refusal;
 use walk::walk::Walk;
 
 // The ends of each link, and the points that it runs over: 0-1 leads to a ring 1-2-3-4.
+// The tests of the layers have this ring, these trains and this blank sheet too: two test crates share no crate of their own, and a test is no
+// plainer where its expected values lie in another crate than what they follow from.
 const RING: [(u8, u8, u8); 5] = [(0, 1, 0), (1, 2, 2), (2, 3, 1), (1, 4, 1), (3, 4, 1)];
 
 const SEVEN: Train = Train {
@@ -51,10 +53,11 @@ fn row(sections: &[u8]) -> [u8; 17]
     all
 }
 
-// The tests of the layers draw theirs alike: one for both would be a public function of a library, which owes a contract and edits.
 fn ring() -> Result<Layout, Refusal> {
     let mut drawing = Drawing::new();
     drawing.add_sections(5)?;
+    // The tests of the layers draw theirs alike. A call for both would be no plainer: the loop is one line, while that call would owe a promise of
+    // its own, and of what is drawn where a link half way is declined.
     for (a, b, points) in RING {
         drawing.add_link(a, b, points)?;
     }

@@ -40,6 +40,8 @@ const LINKS: [(u8, u8, u8); 11] = [
 fn throat() -> Result<Layout, Refusal> {
     let mut drawing = Drawing::new();
     drawing.add_sections(10)?;
+    // A call that takes the table would be no plainer: the throat is this program's own and the loop is one line, while that call would owe a
+    // promise of its own, and of what is drawn where a link half way is declined.
     for (a, b, points) in LINKS {
         drawing.add_link(a, b, points)?;
     }

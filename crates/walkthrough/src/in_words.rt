@@ -5,6 +5,8 @@ use scales::steps_then_points::StepsThenPoints;
 use std::io;
 
 // A scale that says in words by what it orders sheets, and what a sheet costs.
+// The station has the like: two programs share no crate of their own, and in a library the words would be no plainer, as each program
+// chooses its own and a library's call would owe a promise of them.
 pub trait InWords: Scale {
     const ORDER: &'static str;
 

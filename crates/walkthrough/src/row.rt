@@ -1,22 +1,16 @@
 use std::fmt;
 
-// The row of a sheet: the number of a train, and the sections in which it stands at the times 0 to `steps`.
+// The row of a sheet: the number of a train, and the sections in which it stands.
 #[derive(Clone, Copy)]
 pub struct Row<'a> {
     pub number: u16,
-    pub sections: &'a [u8; 17],
-    pub steps: usize,
+    pub sections: &'a [u8],
 }
 
 impl fmt::Display for Row<'_> {
     fn fmt<W: fmt::Write>(&self, f: &mut fmt::Formatter<W>) -> fmt::Result {
-        let Row {
-            number,
-            sections,
-            steps,
-        } = *self;
-        write!(f, "  train {number:4}:")?;
-        for section in sections.iter().take(steps.saturating_add(1)) {
+        write!(f, "  train {:4}:", self.number)?;
+        for section in self.sections {
             write!(f, " {section:2}")?;
         }
         Ok(())

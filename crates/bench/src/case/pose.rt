@@ -12,6 +12,7 @@ impl Case {
 
     // The number of cells that the table needs: sections to the power of the trains, for each time.
     pub(crate) fn cells(&self) -> usize {
+        // `as` is proved to lose nothing here, and `u32::try_from(self.trains).unwrap()` would say no more
         self.sections()
             .saturating_pow(self.trains as u32)
             .saturating_mul(self.steps.saturating_add(1))
@@ -21,6 +22,7 @@ impl Case {
         let half = self.half;
         let mut drawing = Drawing::new();
         drawing.add_sections(half.saturating_mul(2))?;
+        // no table to go over: the ends of the links follow from `half`
         for i in 1..half {
             drawing.add_link(i - 1, i, 0)?;
             drawing.add_link(half.saturating_add(i - 1), half.saturating_add(i), 0)?;

@@ -8,6 +8,9 @@ use roster::train::Train;
 use sheets::sheet::Sheet;
 use std::io;
 
+// A sheet in which nothing is written yet.
+const BLANK: Sheet = Sheet { rows: [[0; 17]; 8] };
+
 // How many times the sheet of a call has: of a plan one more than steps, of any other none.
 fn times(order: &Order) -> usize {
     match order {
@@ -45,7 +48,7 @@ impl<S: InWords> Office<'_, S, S::Cost> {
 
     // Makes a call, and says what is asked and what is replied. Hands on the note, if one is given.
     pub fn call(&mut self, order: Order) -> (Option<Note>, io::Result<()>) {
-        let mut sheet = Sheet { rows: [[0; 17]; 8] };
+        let mut sheet = BLANK;
         let times = times(&order);
         let asked = print!(self.rt; "{} ", Spoken(&order));
         let (note, replied) = match self.planner.answer(order, self.cells, &mut sheet) {
@@ -68,6 +71,7 @@ impl<S: InWords> Office<'_, S, S::Cost> {
     pub fn make(&mut self, order: Order) -> io::Result<()> {
         let (note, said) = self.call(order);
         if let Some(note) = note {
+            // its reply is let go: this planner gave the note just now, nothing but the note opens the section again, and so it is not declined
             let _ = self.planner.give_up(note);
         }
         said

@@ -8,10 +8,11 @@ use track::layout::Layout;
 use track::refusal::Refusal;
 
 impl Case<'_> {
-    // The tests of the searches draw theirs alike: one for both would be a public function of a library, which owes a contract and edits.
     fn layout(&self) -> Result<Layout, Refusal> {
         let mut drawing = Drawing::new();
         drawing.add_sections(self.sections)?;
+        // The tests of the searches draw theirs alike. A call for both would be no plainer: the loop is one line, while that call would owe a promise of
+        // its own, and of what is drawn where a link half way is declined.
         for (a, b, points) in self.links {
             drawing.add_link(*a, *b, *points)?;
         }
