@@ -7,7 +7,7 @@ use crate::board::Board;
 use rules::moves::Move;
 use rules::rule::Rule;
 use scales::scale::Scale;
-use sheets::price::run_over;
+use sheets::price::move_price;
 
 impl<'a, S, R> Board<'a, S, R> {
     // Whether a train in a may stand there or run to b, which is open.
@@ -52,8 +52,6 @@ impl<'a, S: Scale, R> Board<'a, S, R> {
         requires few { self.now.trains ≤ 8 }
         ensures the_price_of_the_move { result ≡ move_price (S.Scale.measure self.now.scale.now) (task (λ _ _ _ _ _ _. true) self.now) at j x }
     {
-        let goal = self.goal[j];
-        let points = run_over(self.layout, at[j], x);
-        self.scale.price(points, (at[j] == goal) & (x == goal))
+        move_price(self.scale, self.layout, at[j], x, self.goal[j])
     }
 }
