@@ -1,5 +1,5 @@
 use crate::places::Places;
-use crate::report::Report;
+use crate::report::{BLANK, Report};
 use rules::following::Following;
 use scales::steps::Steps;
 use search::answer::Unplanned;
@@ -13,10 +13,7 @@ pub struct Answers;
 
 fn show_sheet(rt: &HostRuntime, question: &Question, sheet: &Sheet) -> anyhow::Result<()> {
     for sections in &sheet.rows[..question.roster.count()] {
-        let places = Places {
-            sections,
-            steps: question.steps,
-        };
+        let places = Places(sections.get(..=question.steps).unwrap_or(sections));
         println!(rt; "   {places}")?;
     }
     Ok(())
@@ -31,7 +28,7 @@ impl Report for Answers {
         asked: &Asked<Following, Steps>,
         cells: &mut [Option<u16>],
     ) -> anyhow::Result<()> {
-        let mut sheet = Sheet { rows: [[0; 17]; 8] };
+        let mut sheet = BLANK;
         match search.search(asked, cells, &mut sheet) {
             Err(Unplanned::BeyondReach) => println!(rt; "  {name}: beyond reach")?,
             Err(Unplanned::NoSheet) => println!(rt; "  {name}: none")?,

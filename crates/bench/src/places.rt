@@ -1,16 +1,12 @@
 use std::fmt;
 
-// The sections in which a train stands at the times 0 to `steps`.
+// The sections in which a train stands.
 #[derive(Clone, Copy)]
-pub struct Places<'a> {
-    pub sections: &'a [u8; 17],
-    pub steps: usize,
-}
+pub struct Places<'a>(pub &'a [u8]);
 
 impl fmt::Display for Places<'_> {
     fn fmt<W: fmt::Write>(&self, f: &mut fmt::Formatter<W>) -> fmt::Result {
-        let Places { sections, steps } = *self;
-        for section in sections.iter().take(steps.saturating_add(1)) {
+        for section in self.0 {
             write!(f, " {section:2}")?;
         }
         Ok(())

@@ -1,9 +1,8 @@
-use crate::report::Report;
+use crate::report::{BLANK, Report};
 use rules::following::Following;
 use scales::steps::Steps;
 use search::search::Search;
 use sheets::asked::Asked;
-use sheets::sheet::Sheet;
 use std::time::Instant;
 
 // Tells how long the search took.
@@ -18,8 +17,9 @@ impl Report for Times {
         asked: &Asked<Following, Steps>,
         cells: &mut [Option<u16>],
     ) -> anyhow::Result<()> {
-        let mut sheet = Sheet { rows: [[0; 17]; 8] };
+        let mut sheet = BLANK;
         let start = Instant::now(rt)?;
+        // its answer is let go: only the time is told
         let _ = search.search(asked, cells, &mut sheet);
         let micros = start.elapsed(rt)?.as_micros();
         println!(rt; "  {name}: {micros} microseconds")?;
