@@ -1,5 +1,5 @@
 -- Following the best word, one train after the other and one step after the other.
-use Rattle.std.proofs.Common.{◌≡◌, ℕ, suc, ◌+◌, ◌-◌, ◌*◌, ◌<◌, ◌≤◌, true, false, ◌≢◌, List, [], ◌∷◌, ◌++◌, length, get_or, take, set, is_some, Some, None, Option, sym, refl, ap, ◌∙◌, subst, ap₂, ⊎_elim, mul-zero, mul-add, add-one, arith, length-set, length-take-le, get_or-set_other, get_or-set_same, take-suc-set}
+use Rattle.std.proofs.Common.{◌≡◌, ℕ, suc, ◌+◌, ◌-◌, ◌*◌, ◌<◌, ◌≤◌, true, false, ◌≢◌, List, [], ◌∷◌, ◌++◌, length, get_or, take, set, is_some, Some, None, Option, sym, refl, ap, ◌∙◌, subst, ap₂, ⊎_elim, mul-zero, mul-add, arith, length-set, get_or-set_other, get_or-set_same}
 use lib.Seq.{append_snoc}
 use Rattle.std.proofs.lemmas.List.{append-nil, append_assoc}
 use Rattle.std.proofs.lemmas.Bool.{cases_lt, both_ways}
@@ -10,11 +10,11 @@ use Rattle.words.specs.Tasks.{begin}
 use Rattle.words.specs.Rests.{On}
 use Rattle.words.proofs.Least.{firstly}
 use Rattle.words.proofs.BestWords.{choice_some}
-use Rattle.table.specs.Steps.{todo, joint, move_cost, Picked, Can, Stepped}
-use Rattle.table.specs.Turns.{after}
-use Rattle.table.specs.declared.turn.Turn.{Turn}
+use Rattle.words.specs.Turns.{after, todo, joint, move_cost}
+use Rattle.words.specs.declared.turn.Turn.{Turn}
+use Rattle.words.proofs.Turns.{todo_is, joint_is, joint_after, take_after}
+use Rattle.table.specs.Steps.{Picked, Can, Stepped}
 use Rattle.table.specs.declared.pick.Pick.{Pick}
-use Rattle.words.proofs.Turns.{turned_part}
 
 some_is : {C : Type 0} (o : Option C) (d : C) → o ≡ Some d → is_some o ≡ true
 some_is o d e = ap is_some e
@@ -30,9 +30,6 @@ pub record Stepping {C : Type 0} (S : Measure C) (K : Task) (left : ℕ) (at : L
 
 module _ {C : Type 0} (S : Measure C) (L : MeasureLaws S) (K : Task) (left : ℕ) (at : List ℕ) (k1 : 1 ≤ K.trains) (k8 : K.trains ≤ 8) where
   module _ (moved : ℕ) (t : Turn) (jk : moved < K.trains) (W : Stepping S K left at moved t) where
-    abbrev here : Joint
-    here = record { at = take K.trains t.at; to = take t.moved t.to }
-
     abbrev row : ℕ → Option C
     row = move_cost S K t
 
@@ -40,20 +37,23 @@ module _ {C : Type 0} (S : Measure C) (L : MeasureLaws S) (K : Task) (left : ℕ
     x = first S K.sections row
 
     abbrev next : Joint
-    next = turned K.trains (take K.trains t.at) (take t.moved t.to ++ (x ∷ []))
+    next = joint K (after t x)
 
     abbrev more : ℕ
     more = todo K t.left (t.moved + 1)
 
-    part : turned K.trains (take K.trains t.at) (take t.moved t.to) ≡ here
-    part = let l : length (take t.moved t.to) ≡ t.moved = length-take-le t.moved t.to (omega (arith, W.long, W.so_many)) in turned_part K.trains _ _ (omega arith)
+    yet : t.moved < K.trains
+    yet = omega (arith, W.so_many)
 
-    todo_is : todo K t.left t.moved ≡ suc more
-    todo_is = omega arith
+    room : K.trains ≤ length t.to
+    room = omega (arith, W.long)
+
+    abbrev here : Joint
+    here = record { at = take K.trains t.at; to = take t.moved t.to }
 
     can_here : is_some (least S K.sections row) ≡ true
     unfolding rest process
-    can_here = ap₂ (λ u n. is_some (rest S (process S K) n u)) (sym part) (sym todo_is) ∙ W.can
+    can_here = ap₂ (λ u n. is_some (rest S (process S K) n u)) (sym (joint_is K t yet room)) (sym (todo_is K t yet room)) ∙ W.can
 
     first_of : (o : Option C) → Firstly S K.sections row o x → is_some o ≡ true → (x < K.sections) × ((d : C) × (row x ≡ Some d))
     first_of None F e = absurd (both_ways false refl e)
@@ -62,29 +62,31 @@ module _ {C : Type 0} (S : Measure C) (L : MeasureLaws S) (K : Task) (left : ℕ
     firsts : (x < K.sections) × ((d : C) × (row x ≡ Some d))
     firsts = first_of (least S K.sections row) (firstly S L K.sections row) can_here
 
+    after_first : next ≡ turned K.trains (take K.trains t.at) (take t.moved t.to ++ (x ∷ []))
+    after_first = joint_after K t yet room x
+
     can_next : is_some (rest S (process S K) more next) ≡ true
     unfolding process
-    can_next = let ch = choice_some S _ _ _ firsts.1.0 firsts.1.1 in some_is _ ch.1.0 ch.1.1
+    can_next = let ch = choice_some S _ _ _ firsts.1.0 firsts.1.1 in ap (λ u. is_some (rest S (process S K) more u)) after_first ∙ some_is _ ch.1.0 ch.1.1
 
     word_here : best S (process S K) (suc more) here ≡ x ∷ best S (process S K) more next
     unfolding best process
-    word_here = refl
+    word_here = ap (λ u. x ∷ best S (process S K) more u) (sym after_first)
 
     pub step_more : (p : Pick C) → Picked S K t (Some p) → Stepping S K left at (moved + 1) (after t p.section)
     step_more p P =
         let e : p.section ≡ x = P.goes in
-        let q : take (t.moved + 1) (set t.to t.moved p.section) ≡ take t.moved t.to ++ (x ∷ []) =
-        ap (λ n. take n (set t.to t.moved p.section)) (add-one t.moved) ∙ take-suc-set t.to t.moved p.section (omega (arith, W.long, W.so_many)) ∙ ap (λ y. take t.moved t.to ++ (y ∷ [])) e in
         record {
           of_the_step = W.of_the_step;
           so_many = ap (λ n. n + 1) W.so_many;
           long = length-set t.to t.moved p.section ∙ W.long;
           inside = λ i h. ⊎_elim (λ l. let ne : i ≢ t.moved = (λ z. omega arith) in subst (λ z. z < K.sections) (sym (get_or-set_other t.to t.moved i p.section 0 ne)) (W.inside i l))
               (λ l. let z : t.moved ≡ i = omega arith in subst (λ y. get_or (set t.to t.moved p.section) y 0 < K.sections) z (subst (λ y. y < K.sections) (sym (get_or-set_same t.to t.moved p.section 0 (omega (arith, W.long, W.so_many)) ∙ e)) firsts.0)) (cases_lt i t.moved);
-          can = ap (λ w. is_some (rest S (process S K) more (turned K.trains (take K.trains t.at) w))) q ∙ can_next;
-          word = ap (λ w. w ++ best S (process S K) more (turned K.trains (take K.trains t.at) w)) q
+          can = ap (λ y. is_some (rest S (process S K) more (joint K (after t y)))) e ∙ can_next;
+          word = ap (λ y. take (t.moved + 1) (set t.to t.moved y) ++ best S (process S K) more (joint K (after t y))) e
+              ∙ ap (λ w. w ++ best S (process S K) more next) (take_after K t yet room x)
               ∙ append_snoc (take t.moved t.to) x (best S (process S K) more next)
-              ∙ ap (λ w. take t.moved t.to ++ w) (sym (ap₂ (λ n u. best S (process S K) n u) todo_is part ∙ word_here))
+              ∙ ap (λ w. take t.moved t.to ++ w) (sym (ap₂ (λ n u. best S (process S K) n u) (todo_is K t yet room) (joint_is K t yet room) ∙ word_here))
               ∙ W.word;
         }
 

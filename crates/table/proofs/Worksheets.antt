@@ -1,5 +1,5 @@
 -- The worksheet, column by column.
-use Rattle.std.proofs.Common.{◌≡◌, ℕ, ◌+◌, ◌*◌, ◌<◌, ◌≤◌, Bool, cond, List, [], ◌++◌, length, get_or, take, Some, None, Option, sym, ap, ◌∙◌, subst, ap₂, ⊎_elim, add-mul, mul-le-mul, mul-zero, mul-add, arith}
+use Rattle.std.proofs.Common.{◌≡◌, ℕ, ◌+◌, ◌*◌, ◌<◌, ◌≤◌, Bool, cond, List, [], ◌++◌, length, get_or, take, Some, None, Option, sym, ap, ◌∙◌, subst, ap₂, ⊎_elim, add-mul, mul-le-mul, mul-zero, arith}
 use Rattle.std.proofs.Props.{props}
 use Rattle.std.proofs.lemmas.Bool.{cases_lt}
 use Rattle.std.proofs.lemmas.List.{get_or-take, get_or_append_left, get_or-append-add}
@@ -10,12 +10,12 @@ use Rattle.scales.specs.Measure.{Measure}
 use Rattle.words.specs.Words.{rest}
 use Rattle.words.specs.Joint.{Task, home, process}
 use Rattle.words.specs.Tasks.{task}
-use Rattle.words.proofs.Turns.{turned_part}
+use Rattle.words.specs.Turns.{begun, todo, joint}
+use Rattle.words.proofs.Turns.{todo_begun, joint_begun}
 use Rattle.table.specs.Ahead.{Tells}
 use Rattle.table.specs.Codes.{digits, code_of}
 use Rattle.table.specs.Columns.{due, Column, Columns, Within, cell_at}
-use Rattle.table.specs.Steps.{todo, joint, Ready}
-use Rattle.table.specs.Turns.{begun}
+use Rattle.table.specs.Steps.{Ready}
 use Rattle.table.specs.declared.filled.Filled.{Filled}
 use Rattle.table.specs.declared.positions.Positions.{Positions}
 use Rattle.table.proofs.Numbers.{base_some, code_below, code_digits, on_digits}
@@ -49,9 +49,7 @@ module _ {C : Type 0} (S : Measure C) (K : Task) where
   pub due_next : (left i : ℕ) (at : List ℕ) → 1 ≤ K.trains → take K.trains at ≡ digits K.sections K.trains i
       → rest S (process S K) (todo K left 0) (joint K (begun left at)) ≡ due S K (left + 1) i
   due_next left i at k e =
-      let a = mul-add K.trains left 1 in
-      let m : todo K left 0 ≡ K.trains * (left + 1) = omega arith in
-      ap₂ (λ n u. rest S (process S K) n u) m (turned_part K.trains (take K.trains at) [] (omega arith)) ∙ ap (λ w. rest S (process S K) (K.trains * (left + 1)) (record { at = w; to = [] })) e
+      ap₂ (λ n u. rest S (process S K) n u) (todo_begun K left) (joint_begun K left at k) ∙ ap (λ w. rest S (process S K) (K.trains * (left + 1)) (record { at = w; to = [] })) e
 
   -- the last time: nothing is left to pay where all are home
   pub home_due : (i : ℕ) (at : List ℕ) (b : Bool) → take K.trains at ≡ digits K.sections K.trains i → b ≡ home K (take K.trains at)

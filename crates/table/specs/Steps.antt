@@ -1,24 +1,13 @@
 -- What the search of one joint step answers.
-use Rattle.std.specs.Prelude.{◌≡◌, ℕ, ◌+◌, ◌-◌, ◌*◌, ◌≤◌, true, List, ◌++◌, take, is_some, Some, None, Option, option_map}
+use Rattle.std.specs.Prelude.{◌≡◌, ℕ, ◌+◌, ◌*◌, ◌≤◌, true, List, ◌++◌, take, is_some, Some, None, Option, option_map}
 use Rattle.scales.specs.Measure.{Measure}
-use Rattle.words.specs.Words.{rest, best, first, choice}
-use Rattle.words.specs.Joint.{Task, Joint, turned, process}
+use Rattle.words.specs.Words.{rest, best, first}
+use Rattle.words.specs.Joint.{Task, process}
 use Rattle.words.specs.Tasks.{begin}
 use Rattle.words.specs.Rests.{On}
+use Rattle.words.specs.Turns.{todo, joint, move_cost}
+use Rattle.words.specs.declared.turn.Turn.{Turn}
 use Rattle.table.specs.declared.pick.Pick.{Pick}
-use Rattle.table.specs.declared.turn.Turn.{Turn}
-
--- the moves to come: the trains from j on have yet to move in this step, and `left` steps come after it
-abbrev pub todo : Task → (left j : ℕ) → ℕ
-todo K left j = (K.trains - j) + K.trains * left
-
--- where the trains of the task stood, and where those have gone that moved
-abbrev pub joint : Task → Turn → Joint
-joint K t = turned K.trains (take K.trains t.at) (take t.moved t.to)
-
--- what the move of the next train to a section costs, with all that is still to come
-abbrev pub move_cost : {C : Type 0} → Measure C → Task → Turn → ℕ → Option C
-move_cost S K t = choice S (process S K) (todo K t.left (t.moved + 1)) (record { at = take K.trains t.at; to = take t.moved t.to })
 
 -- the section of the move, if there is one
 abbrev pub MovesTo : {C : Type 0} → Option (Pick C) → ℕ → Type 0

@@ -6,9 +6,9 @@ use crate::ahead::Ahead;
 use crate::filled::Filled;
 use crate::positions::Positions;
 use crate::step::least_rest;
-use crate::turn::Turn;
 use rules::rule::Rule;
 use scales::scale::Scale;
+use words::turn::Turn;
 
 // The column of no steps left: nothing is left to pay at the goals, and there is no way elsewhere.
 fn fill_last<S: Scale, R: Rule>(positions: &Positions<S, R>, column: &mut [Option<S::Cost>])

@@ -14,4 +14,3 @@ pub mod read;
 pub mod step;
 pub mod table;
 pub mod tries;
-pub mod turn;

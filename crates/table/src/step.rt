@@ -3,16 +3,17 @@ ghost use Rattle.words.specs.Joint.{process};
 ghost use Rattle.words.specs.Rests.{On};
 ghost use Rattle.words.specs.Tasks.{task};
 ghost use Rattle.words.specs.Words.{rest};
-ghost use Rattle.table.specs.Steps.{todo, joint, move_cost, Ready, Picked, Can, Stepped};
+ghost use Rattle.words.specs.Turns.{todo, joint, move_cost};
+ghost use Rattle.table.specs.Steps.{Ready, Picked, Can, Stepped};
 
 use crate::ahead::Ahead;
 use crate::candidates::candidates;
 use crate::pick::Pick;
-use crate::turn::Turn;
 use rules::rule::Rule;
 use scales::least::first_least;
 use scales::scale::Scale;
 use words::rests::Rests;
+use words::turn::Turn;
 
 // The least cost of the rest of a step from here on, and of all that is still to come.
 #[cycle(step)]

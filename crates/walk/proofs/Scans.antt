@@ -1,20 +1,21 @@
 -- The walk from a place on: what a turn of its loop, its end and its cuts show.
-use Rattle.std.proofs.Common.{◌≡◌, ℕ, zero, suc, ◌+◌, ◌-◌, ◌*◌, ◌<◌, ◌≤◌, Bool, true, false, cond, List, [], ◌∷◌, ◌++◌, length, take, drop, set, Some, None, Option, sym, refl, ap, ◌∙◌, subst, ap₂, inl, mul-zero, mul-suc, add-one, arith, length-set, length-take-le, take-suc-set}
+use Rattle.std.proofs.Common.{◌≡◌, ℕ, zero, suc, ◌+◌, ◌-◌, ◌*◌, ◌<◌, ◌≤◌, Bool, true, false, cond, List, [], ◌∷◌, length, take, drop, set, Some, None, Option, sym, refl, ap, ◌∙◌, subst, ap₂, inl, mul-zero, add-one, arith, length-set, length-take-le}
 use Rattle.std.specs.Bool.{then_some}
 use Rattle.std.specs.Option.{option_or}
 use Rattle.std.proofs.lemmas.Bool.{not-false}
 use Rattle.scales.specs.Measure.{Measure, MeasureLaws}
-use Rattle.words.specs.Words.{Process, Run, spent, under, with, least, first, rest, best, choice}
+use Rattle.words.specs.Words.{Process, Run, spent, under, with, least, first, rest, best}
 use Rattle.words.specs.Joint.{Task, Joint, turned, may_move, move_price, home, process}
 use Rattle.words.proofs.Least.{NoHigher}
 use Rattle.words.proofs.BestWords.{rest_size, answers, spent_size}
 use Rattle.words.specs.declared.found.Found.{Found}
 use Rattle.words.specs.Tasks.{cost_of, Goes}
-use Rattle.words.proofs.Turns.{turned_full, turned_part, may_same, price_same}
+use Rattle.words.specs.Turns.{begun, after as turn_after, todo, joint, move_cost}
+use Rattle.words.proofs.Turns.{turned_full, todo_begun, joint_begun, todo_is, joint_is, joint_after, move_cost_is}
 use Rattle.words.proofs.Prices.{price_size}
 use Rattle.walk.specs.declared.spot.Spot.{Spot}
 use Rattle.walk.specs.Spots.{after, next_step}
-use Rattle.walk.specs.Walks.{cut, spent_up, todo, Ready, Walked, put_at}
+use Rattle.walk.specs.Walks.{cut, spent_up, Ready, Walked, put_at}
 use Rattle.walk.proofs.Cuts.{Sized, sized_at, cut_none, cut_step, found_lower, none_lower, with_cond, under_with, with_assoc, spent_none, nothing_over, price_over}
 
 pub goes_map : {C : Type 0} (r : Option (Found C)) (P Q : List ℕ → Type 0) → ((w : List ℕ) → P w → Q w) → Goes r P → Goes r Q
@@ -77,52 +78,42 @@ goes_put p x None P Q h g l = tt
 goes_put p x (Some f) P Q h g l = h f.plan g l
 
 module _ {C : Type 0} (S : Measure C) (K : Task) (spot : Spot C) (bound : Option C) where
-  abbrev pub from_here : Joint
-  from_here = record { at = take K.trains spot.at; to = take spot.moved spot.to }
-
-  abbrev pub row_of : ℕ → Option C
-  row_of = choice S (process S K) (todo K spot.left (spot.moved + 1)) from_here
-
   abbrev pub RouteBy : ℕ → List ℕ → Type 0
-  RouteBy y plan = take (suc (todo K spot.left (spot.moved + 1))) (drop spot.place plan) ≡ y ∷ best S (process S K) (todo K spot.left (spot.moved + 1)) (turned K.trains (take K.trains spot.at) (take spot.moved spot.to ++ (y ∷ [])))
+  RouteBy y plan = take (suc (todo K spot.turn.left (spot.turn.moved + 1))) (drop spot.place plan) ≡ y ∷ best S (process S K) (todo K spot.turn.left (spot.turn.moved + 1)) (joint K (turn_after spot.turn y))
 
   -- the sections below x are tried, and b is the first of the least that stays below the bound
   pub record Scan (x : ℕ) (b : Option (Found C)) : Type 0 where
-    pub cost : cost_of b ≡ cut S bound (with S spot.sofar (least S x row_of))
-    pub goes : Goes b (RouteBy (first S x row_of))
+    pub cost : cost_of b ≡ cut S bound (with S spot.sofar (least S x (move_cost S K spot.turn)))
+    pub goes : Goes b (RouteBy (first S x (move_cost S K spot.turn)))
     pub long : Goes b (λ plan. length plan ≡ 128)
 
 module _ {C : Type 0} (S : Measure C) (L : MeasureLaws S) (K : Task) (spot : Spot C) (bound : Option C)
-    (R : Ready S K spot) (jk : spot.moved < K.trains) (ka : K.trains ≤ length spot.at) (kt : K.trains ≤ length spot.to) where
+    (R : Ready S K spot) (jk : spot.turn.moved < K.trains) (ka : K.trains ≤ length spot.turn.at) (kt : K.trains ≤ length spot.turn.to) where
   abbrev row : ℕ → Option C
-  row = row_of S K spot bound
+  row = move_cost S K spot.turn
 
   abbrev Scanned : ℕ → Option (Found C) → Type 0
   Scanned = Scan S K spot bound
 
   abbrev rests : ℕ
-  rests = todo K spot.left (spot.moved + 1)
+  rests = todo K spot.turn.left (spot.turn.moved + 1)
 
-  todo_is : todo K spot.left spot.moved ≡ suc rests
-  todo_is = omega arith
+  more : todo K spot.turn.left spot.turn.moved ≡ suc rests
+  more = todo_is K spot.turn jk kt
 
-  row_is : (x : ℕ) → row x ≡ cond (may_move K spot.at spot.to spot.moved x) (with S (move_price S K spot.at spot.moved x) (rest S (process S K) rests (turned K.trains (take K.trains spot.at) (take spot.moved spot.to ++ (x ∷ []))))) None
-  unfolding process
-  row_is x =
-      let l : length (take spot.moved spot.to) ≡ spot.moved = length-take-le spot.moved spot.to (omega arith) in
-      let m = may_same K spot.moved spot.at spot.to jk x in
-      let p = price_same S K spot.moved spot.at jk x in
-      simp (l, m, p)
+  -- what is left after a move to x
+  abbrev after_move : ℕ → Option C
+  after_move x = rest S (process S K) rests (joint K (turn_after spot.turn x))
 
   -- sizes of what the row holds
   few : 16 * suc rests ≤ 60000
-  few = omega (arith, R.size, todo_is)
+  few = omega (arith, R.size, more)
 
   row_sized : (x : ℕ) → Sized S (16 * suc rests) (row x)
   row_sized x =
-      subst (Sized S (16 * suc rests)) (sym (row_is x))
-      (sized_choice S L (16 * rests) (may_move K spot.at spot.to spot.moved x) (move_price S K spot.at spot.moved x) _ (16 * suc rests) (L.size_price _ _ (R.points_most _ _)) (omega (arith, few)) (omega arith)
-      (rest_sized S L K R.points_most rests (turned K.trains (take K.trains spot.at) (take spot.moved spot.to ++ (x ∷ []))) (omega (arith, few))))
+      subst (Sized S (16 * suc rests)) (sym (move_cost_is K spot.turn jk kt S x))
+      (sized_choice S L (16 * rests) (may_move K spot.turn.at spot.turn.to spot.turn.moved x) (move_price S K spot.turn.at spot.turn.moved x) _ (16 * suc rests) (L.size_price _ _ (R.points_most _ _)) (omega (arith, few)) (omega arith)
+      (rest_sized S L K R.points_most rests (joint K (turn_after spot.turn x)) (omega (arith, few))))
 
   least_sized : (x : ℕ) → Sized S (16 * suc rests) (least S x row)
   least_sized zero = tt
@@ -158,52 +149,50 @@ module _ {C : Type 0} (S : Measure C) (L : MeasureLaws S) (K : Task) (spot : Spo
       e1 = e ∙ ap (λ z. cut S (option_or z bound) (with S spot.sofar (row x))) H.cost
 
       same : under S (with S spot.sofar (least S x row)) (with S spot.sofar (row x)) ≡ under S (least S x row) (row x)
-      same = under_with S L spot.sofar (16 * suc rests) (least S x row) (row x) (omega (arith, R.size, todo_is)) (least_sized x) (row_sized x)
+      same = under_with S L spot.sofar (16 * suc rests) (least S x row) (row x) (omega (arith, R.size, more)) (least_sized x) (row_sized x)
 
-  pub scan_skip : (x : ℕ) (b : Option (Found C)) → Scanned x b → may_move K spot.at spot.to spot.moved x ≡ false → Scanned (x + 1) b
+  pub scan_skip : (x : ℕ) (b : Option (Found C)) → Scanned x b → may_move K spot.turn.at spot.turn.to spot.turn.moved x ≡ false → Scanned (x + 1) b
   scan_skip x b H e =
-      let none : row x ≡ None = row_is x ∙ ap (λ u. cond u (with S (move_price S K spot.at spot.moved x) (rest S (process S K) rests (turned K.trains (take K.trains spot.at) (take spot.moved spot.to ++ (x ∷ []))))) None) e in
+      let none : row x ≡ None = move_cost_is K spot.turn jk kt S x ∙ ap (λ u. cond u (with S (move_price S K spot.turn.at spot.turn.moved x) (after_move x)) None) e in
       step x b None H (sym (ap (λ z. cut S (option_or (cost_of b) bound) (with S spot.sofar z)) none ∙ cut_none S L (option_or (cost_of b) bound))) tt tt
 
-  pub scan_move : (x : ℕ) (b r : Option (Found C)) → Scanned x b → may_move K spot.at spot.to spot.moved x ≡ true
-      → Walked S K (after spot x (S.join spot.sofar (move_price S K spot.at spot.moved x))) (option_or (cost_of b) bound) r
+  pub scan_move : (x : ℕ) (b r : Option (Found C)) → Scanned x b → may_move K spot.turn.at spot.turn.to spot.turn.moved x ≡ true
+      → Walked S K (after spot x (S.join spot.sofar (move_price S K spot.turn.at spot.turn.moved x))) (option_or (cost_of b) bound) r
       → Scanned (x + 1) (option_or (put_at spot.place x r) b)
   scan_move x b r H e W =
-      let q : take (spot.moved + 1) (set spot.to spot.moved x) ≡ take spot.moved spot.to ++ (x ∷ []) = rw add-one (take-suc-set spot.to spot.moved x (omega arith)) in
-      let p = move_price S K spot.at spot.moved x in
-      let u : ℕ → Joint = λ z. turned K.trains (take K.trains spot.at) (take spot.moved spot.to ++ (x ∷ [])) in
-      let rz = rest_sized S L K R.points_most rests (u 0) (omega (arith, few)) in
+      let p = move_price S K spot.turn.at spot.turn.moved x in
+      let rz = rest_sized S L K R.points_most rests (joint K (turn_after spot.turn x)) (omega (arith, few)) in
       let ps : S.size p ≤ 16 = L.size_price _ _ (R.points_most _ _) in
-      let here : with S spot.sofar (with S p (rest S (process S K) rests (u 0))) ≡ with S spot.sofar (row x) =
-      ap (with S spot.sofar) (sym (row_is x ∙ ap (λ m. cond m (with S p (rest S (process S K) rests (u 0))) None) e)) in
+      let here : with S spot.sofar (with S p (after_move x)) ≡ with S spot.sofar (row x) =
+      ap (with S spot.sofar) (sym (move_cost_is K spot.turn jk kt S x ∙ ap (λ m. cond m (with S p (after_move x)) None) e)) in
       step x b (put_at spot.place x r) H
       (cost_put spot.place x r ∙ W.cost
-      ∙ ap (λ w. cut S (option_or (cost_of b) bound) (with S (S.join spot.sofar p) (rest S (process S K) rests (turned K.trains (take K.trains spot.at) w)))) q
-      ∙ ap (cut S (option_or (cost_of b) bound)) (with_assoc S L spot.sofar p (16 * rests) (rest S (process S K) rests (u 0)) (omega (arith, R.size, todo_is)) rz ∙ here))
+      ∙ ap (cut S (option_or (cost_of b) bound)) (with_assoc S L spot.sofar p (16 * rests) (after_move x) (omega (arith, R.size, more)) rz ∙ here))
       (goes_put spot.place x r _ _ (λ plan h l.
-      put_word plan spot.place rests x (omega (arith, R.room, todo_is))
-      ∙ ap (λ w. x ∷ w) (ap (λ i. take rests (drop i plan)) (sym (add-one spot.place)) ∙ h ∙ ap (λ w. best S (process S K) rests (turned K.trains (take K.trains spot.at) w)) q))
+      put_word plan spot.place rests x (omega (arith, R.room, more))
+      ∙ ap (λ w. x ∷ w) (ap (λ i. take rests (drop i plan)) (sym (add-one spot.place)) ∙ h))
       W.goes W.long)
       (goes_put spot.place x r _ _ (λ plan h l. length-set plan spot.place x ∙ l) W.long W.long)
 
   pub scan_all : (b : Option (Found C)) → Scanned K.sections b → Walked S K spot bound b
   unfolding rest best process
   scan_all b H =
-      let l : length (take spot.moved spot.to) ≡ spot.moved = length-take-le spot.moved spot.to (omega arith) in
-      let t : turned K.trains (take K.trains spot.at) (take spot.moved spot.to) ≡ from_here S K spot bound = turned_part K.trains _ _ (omega arith) in
-      let m : todo K spot.left spot.moved ≡ suc rests = todo_is in
+      let t = joint_is K spot.turn jk kt in
+      let m = more in
+      let x = first S K.sections row in
+      let a = ap (λ u. x ∷ best S (process S K) rests u) (joint_after K spot.turn jk kt x) in
       record {
         cost = rw (t, m) H.cost;
-        goes = goes_map b _ _ (λ w h. rw (t, m) h) H.goes;
+        goes = goes_map b _ _ (λ w h. rw (t, m) (h ∙ a)) H.goes;
         long = H.long;
       }
 
-  pub ready_next : (x : ℕ) → Ready S K (after spot x (S.join spot.sofar (move_price S K spot.at spot.moved x)))
+  pub ready_next : (x : ℕ) → Ready S K (after spot x (S.join spot.sofar (move_price S K spot.turn.at spot.turn.moved x)))
   ready_next x =
-      let ps : S.size (move_price S K spot.at spot.moved x) ≤ 16 = L.size_price _ _ (R.points_most _ _) in
+      let ps : S.size (move_price S K spot.turn.at spot.turn.moved x) ≤ 16 = L.size_price _ _ (R.points_most _ _) in
       let z = R.size in
-      let td = todo_is in
-      let js = L.size_join spot.sofar (move_price S K spot.at spot.moved x) (omega arith) in
+      let td = more in
+      let js = L.size_join spot.sofar (move_price S K spot.turn.at spot.turn.moved x) (omega arith) in
       record {
         points_most = R.points_most;
         trains_some = R.trains_some;
@@ -219,28 +208,27 @@ module _ {C : Type 0} (S : Measure C) (L : MeasureLaws S) (K : Task) (spot : Spo
   -- what is spent leaves nothing below the bound
   pub walked_up : spent_up S bound spot.sofar ≡ true → Walked S K spot bound None
   walked_up e =
-      let s : Joint = turned K.trains (take K.trains spot.at) (take spot.moved spot.to) in
+      let s = joint K spot.turn in
       record {
-        cost = sym (spent_none S L bound spot.sofar (16 * todo K spot.left spot.moved) (rest S (process S K) (todo K spot.left spot.moved) s) (omega (arith, R.size))
-            (rest_sized S L K R.points_most (todo K spot.left spot.moved) s (omega (arith, R.size)))
-            (rest_over S L (process S K) (price_size S L K R.points_most) (prices_over S L K) (todo K spot.left spot.moved) s (omega (arith, R.size))) e);
+        cost = sym (spent_none S L bound spot.sofar (16 * todo K spot.turn.left spot.turn.moved) (rest S (process S K) (todo K spot.turn.left spot.turn.moved) s) (omega (arith, R.size))
+            (rest_sized S L K R.points_most (todo K spot.turn.left spot.turn.moved) s (omega (arith, R.size)))
+            (rest_over S L (process S K) (price_size S L K R.points_most) (prices_over S L K) (todo K spot.turn.left spot.turn.moved) s (omega (arith, R.size))) e);
         goes = tt;
         long = tt;
       }
 
-  module _ (full : spot.moved ≡ K.trains) (kt : K.trains ≤ length spot.to) where
-    turn : turned K.trains (take K.trains spot.at) (take spot.moved spot.to) ≡ record { at = take K.trains spot.to; to = [] }
-    turn = ap (λ i. turned K.trains (take K.trains spot.at) (take i spot.to)) full ∙ turned_full K.trains _ _ (length-take-le K.trains spot.to kt)
+  module _ (full : spot.turn.moved ≡ K.trains) (kt : K.trains ≤ length spot.turn.to) where
+    turn : joint K spot.turn ≡ record { at = take K.trains spot.turn.to; to = [] }
+    turn = ap (λ i. turned K.trains (take K.trains spot.turn.at) (take i spot.turn.to)) full ∙ turned_full K.trains _ _ (length-take-le K.trains spot.turn.to kt)
 
     -- all have moved, and the next step begins
-    pub walked_turn : (r : Option (Found C)) → 0 < spot.left → Walked S K (next_step spot) bound r → Walked S K spot bound r
+    pub walked_turn : (r : Option (Found C)) → 0 < spot.turn.left → Walked S K (next_step spot) bound r → Walked S K spot bound r
     walked_turn r h W =
-        let s = turned_part K.trains (take K.trains spot.to) (take 0 spot.to) R.trains_some in
-        let e : turned K.trains (take K.trains spot.to) (take 0 spot.to) ≡ turned K.trains (take K.trains spot.at) (take spot.moved spot.to) = s ∙ sym turn in
-        let m : todo K (spot.left - 1) 0 ≡ todo K spot.left spot.moved =
-        (let p : spot.left ≡ suc (spot.left - 1) = omega arith in
-        let q : K.trains * spot.left ≡ K.trains * suc (spot.left - 1) = ap (λ u. K.trains * u) p in
-        let v = mul-suc K.trains (spot.left - 1) in omega arith) in
+        let e : joint K (begun (spot.turn.left - 1) spot.turn.to) ≡ joint K spot.turn = joint_begun K (spot.turn.left - 1) spot.turn.to R.trains_some ∙ sym turn in
+        let m : todo K (spot.turn.left - 1) 0 ≡ todo K spot.turn.left spot.turn.moved =
+        (let p : spot.turn.left - 1 + 1 ≡ spot.turn.left = omega arith in
+        let q : K.trains * (spot.turn.left - 1 + 1) ≡ K.trains * spot.turn.left = ap (λ u. K.trains * u) p in
+        let v = todo_begun K (spot.turn.left - 1) in omega arith) in
         record {
           cost = W.cost ∙ ap₂ (λ n u. cut S bound (with S spot.sofar (rest S (process S K) n u))) m e;
           goes = goes_map r _ _ (λ w h. ap (λ n. take n (drop spot.place w)) (sym m) ∙ h ∙ ap₂ (λ n u. best S (process S K) n u) m e) W.goes;
@@ -248,16 +236,16 @@ module _ {C : Type 0} (S : Measure C) (L : MeasureLaws S) (K : Task) (spot : Spo
         }
 
     -- the last step is made
-    pub walked_end : (r : Option (Found C)) (plan : List ℕ) → length plan ≡ 128 → spot.left ≡ 0 → spent_up S bound spot.sofar ≡ false
-        → r ≡ then_some (home K (take K.trains spot.to)) (record { cost = spot.sofar; plan = plan }) → Walked S K spot bound r
+    pub walked_end : (r : Option (Found C)) (plan : List ℕ) → length plan ≡ 128 → spot.turn.left ≡ 0 → spent_up S bound spot.sofar ≡ false
+        → r ≡ then_some (home K (take K.trains spot.turn.to)) (record { cost = spot.sofar; plan = plan }) → Walked S K spot bound r
     unfolding rest best process
     walked_end r plan l z u e =
-        let m : todo K spot.left spot.moved ≡ 0 =
-        (let q : K.trains * spot.left ≡ K.trains * 0 = ap (λ v. K.trains * v) z in let v = mul-zero K.trains in omega arith) in
+        let m : todo K spot.turn.left spot.turn.moved ≡ 0 =
+        (let q : K.trains * spot.turn.left ≡ K.trains * 0 = ap (λ v. K.trains * v) z in let v = mul-zero K.trains in omega arith) in
         rw e (record {
-          cost = ended bound (home K (take K.trains spot.to)) u ∙ rw (turn, m);
-          goes = home_goes (home K (take K.trains spot.to)) _ (rw (turn, m));
-          long = home_goes (home K (take K.trains spot.to)) (λ w. length w ≡ 128) l;
+          cost = ended bound (home K (take K.trains spot.turn.to)) u ∙ rw (turn, m);
+          goes = home_goes (home K (take K.trains spot.turn.to)) _ (rw (turn, m));
+          long = home_goes (home K (take K.trains spot.turn.to)) (λ w. length w ≡ 128) l;
         })
       where
         end : Found C

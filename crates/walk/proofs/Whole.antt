@@ -1,17 +1,18 @@
 -- The walk from the starts on solves the group's task.
-use Rattle.std.proofs.Common.{◌≡◌, ℕ, suc, ◌-◌, ◌*◌, ◌≤◌, List, [], take, Some, None, Option, sym, refl, ap, ◌∙◌, ap₂, mul-le-mul, mul-suc, arith}
+use Rattle.std.proofs.Common.{◌≡◌, ℕ, ◌+◌, ◌-◌, ◌*◌, ◌≤◌, take, Some, None, Option, sym, refl, ap, ◌∙◌, ap₂, mul-le-mul, arith}
 use Rattle.track.specs.declared.layout.Layout.{Layout}
 use Rattle.rules.specs.Conflicts.{Conflicts}
 use Rattle.scales.specs.Measure.{Measure, MeasureLaws}
 use Rattle.scales.proofs.Joins.{nothing_join}
 use Rattle.words.specs.Words.{rest, best, with}
-use Rattle.words.specs.Joint.{Task, turned, process}
+use Rattle.words.specs.Joint.{Task, process}
 use Rattle.words.specs.Tasks.{task, begin, Solution}
 use Rattle.words.specs.declared.group.Group.{Group}
 use Rattle.words.specs.declared.found.Found.{Found}
 use Rattle.words.proofs.Prices.{over_few}
-use Rattle.words.proofs.Turns.{turned_part}
-use Rattle.walk.specs.Walks.{cut, todo, joint, Ready, Walked}
+use Rattle.words.specs.Turns.{begun, todo, joint}
+use Rattle.words.proofs.Turns.{todo_begun, joint_begun}
+use Rattle.walk.specs.Walks.{cut, Ready, Walked}
 use Rattle.walk.specs.declared.spot.Spot.{Spot}
 use Rattle.walk.proofs.Cuts.{Sized}
 use Rattle.walk.proofs.Scans.{rest_sized, goes_map}
@@ -36,17 +37,15 @@ module _ {P R C : Type 0} (conflicts : R → Layout → Conflicts) (b : Group P 
 
   todo_all : todo K (b.steps - 1) 0 ≡ full
   todo_all =
-      let p : b.steps ≡ suc (b.steps - 1) = omega (arith, b.begun) in
-      let e : b.board.trains * b.steps ≡ b.board.trains * suc (b.steps - 1) = ap (λ u. b.board.trains * u) p in
-      let v = mul-suc b.board.trains (b.steps - 1) in
-      omega arith
+      let p : b.steps - 1 + 1 ≡ b.steps = omega (arith, b.begun) in
+      todo_begun K (b.steps - 1) ∙ ap (λ u. b.board.trains * u) p
 
   -- the trains at their starts, with all steps to come and so much spent
-  abbrev pub first : (to : List ℕ) (n : C) → Spot C
-  first to n = record { at = b.start; to = to; moved = 0; left = b.steps - 1; place = 0; sofar = n }
+  abbrev pub first : (n : C) → Spot C
+  first n = record { turn = begun (b.steps - 1) b.start; place = 0; sofar = n }
 
-  pub ready : (to : List ℕ) (n : C) → n ≡ S.nothing → Ready S K (first to n)
-  ready to n e =
+  pub ready : (n : C) → n ≡ S.nothing → Ready S K (first n)
+  ready n e =
       let t = todo_all in
       let w = few in
       let z : S.size n ≡ 0 = ap S.size e ∙ L.size_nothing in
@@ -60,16 +59,15 @@ module _ {P R C : Type 0} (conflicts : R → Layout → Conflicts) (b : Group P 
         size = omega arith;
       }
 
-  begins : (to : List ℕ) (n : C) → take 0 to ≡ [] → joint K (first to n) ≡ begin K b.start
-  begins to n e = ap (turned b.board.trains (take b.board.trains b.start)) e ∙ turned_part b.board.trains (take b.board.trains b.start) [] b.some
-
-  pub solution : (to : List ℕ) (n : C) (r : Option (Found C)) → n ≡ S.nothing → take 0 to ≡ [] → Walked S K (first to n) None r → Solution S K b.steps b.start r
-  solution to n r e e0 W = record {
-    cost =
-        W.cost ∙ cut_all S _
-        ∙ ap (λ v. with S v (rest S (process S K) (todo K (b.steps - 1) 0) (joint K (first to n)))) e
-        ∙ ap₂ (λ m u. with S S.nothing (rest S (process S K) m u)) todo_all (begins to n e0)
-        ∙ with_nothing S L (16 * full) (rest S (process S K) full (begin K b.start)) (omega (arith, few)) (rest_sized S L K (over_few b.board.layout.now) full (begin K b.start) (omega (arith, few)));
-    goes = goes_map r _ _ (λ plan g. ap (λ m. take m plan) (sym todo_all) ∙ g ∙ ap₂ (λ m u. best S (process S K) m u) todo_all (begins to n e0)) W.goes;
-    long = W.long;
-  }
+  pub solution : (n : C) (r : Option (Found C)) → n ≡ S.nothing → Walked S K (first n) None r → Solution S K b.steps b.start r
+  solution n r e W =
+      let s = joint_begun K (b.steps - 1) b.start b.some in
+      record {
+        cost =
+            W.cost ∙ cut_all S _
+            ∙ ap (λ v. with S v (rest S (process S K) (todo K (b.steps - 1) 0) (joint K (begun (b.steps - 1) b.start)))) e
+            ∙ ap₂ (λ m u. with S S.nothing (rest S (process S K) m u)) todo_all s
+            ∙ with_nothing S L (16 * full) (rest S (process S K) full (begin K b.start)) (omega (arith, few)) (rest_sized S L K (over_few b.board.layout.now) full (begin K b.start) (omega (arith, few)));
+        goes = goes_map r _ _ (λ plan g. ap (λ m. take m plan) (sym todo_all) ∙ g ∙ ap₂ (λ m u. best S (process S K) m u) todo_all s) W.goes;
+        long = W.long;
+      }

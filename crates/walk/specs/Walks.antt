@@ -1,9 +1,10 @@
 -- What a walk from a place on answers.
-use Rattle.std.specs.Prelude.{◌≡◌, ℕ, ◌+◌, ◌-◌, ◌*◌, ◌<◌, ◌≤◌, Bool, false, cond, not, length, take, drop, Some, None, Option, slice_set}
+use Rattle.std.specs.Prelude.{◌≡◌, ℕ, ◌+◌, ◌*◌, ◌<◌, ◌≤◌, Bool, false, cond, not, length, take, drop, Some, None, Option, slice_set}
 use Rattle.scales.specs.Measure.{Measure}
 use Rattle.words.specs.Words.{rest, best, under, with}
-use Rattle.words.specs.Joint.{Task, Joint, turned, process}
+use Rattle.words.specs.Joint.{Task, process}
 use Rattle.words.specs.Tasks.{cost_of, Goes}
+use Rattle.words.specs.Turns.{todo, joint}
 use Rattle.words.specs.declared.found.Found.{Found}
 use Rattle.walk.specs.declared.spot.Spot.{Spot}
 
@@ -16,28 +17,20 @@ abbrev pub spent_up : {C : Type 0} → Measure C → Option C → C → Bool
 spent_up S None a = false
 spent_up S (Some b) a = not (S.lower a b)
 
--- the moves to come: the trains from j on have yet to move in this step, and `left` steps come after it
-abbrev pub todo : Task → (left j : ℕ) → ℕ
-todo K left j = (K.trains - j) + K.trains * left
-
 -- the walk may go on from here: there is room for the plan, and no cost grows too large
 pub record Ready {C : Type 0} (S : Measure C) (K : Task) (s : Spot C) : Type 0 where
   pub points_most : (a b : ℕ) → K.points a b ≤ 7
   pub trains_some : 1 ≤ K.trains
   pub trains_most : K.trains ≤ 8
-  pub left_most : s.left < 16
-  pub in_group : s.moved ≤ K.trains
-  pub room : s.place + todo K s.left s.moved ≤ 128
-  pub size : S.size s.sofar + 16 * todo K s.left s.moved ≤ 60000
-
--- where the trains of the task stand, and where those have gone that moved
-abbrev pub joint : {C : Type 0} → Task → Spot C → Joint
-joint K s = turned K.trains (take K.trains s.at) (take s.moved s.to)
+  pub left_most : s.turn.left < 16
+  pub in_group : s.turn.moved ≤ K.trains
+  pub room : s.place + todo K s.turn.left s.turn.moved ≤ 128
+  pub size : S.size s.sofar + 16 * todo K s.turn.left s.turn.moved ≤ 60000
 
 -- of the words from here on the best, if with what is spent it costs less than the bound; it is written from the spot's place on
 pub record Walked {C : Type 0} (S : Measure C) (K : Task) (s : Spot C) (bound : Option C) (r : Option (Found C)) : Type 0 where
-  pub cost : cost_of r ≡ cut S bound (with S s.sofar (rest S (process S K) (todo K s.left s.moved) (joint K s)))
-  pub goes : Goes r (λ plan. take (todo K s.left s.moved) (drop s.place plan) ≡ best S (process S K) (todo K s.left s.moved) (joint K s))
+  pub cost : cost_of r ≡ cut S bound (with S s.sofar (rest S (process S K) (todo K s.turn.left s.turn.moved) (joint K s.turn)))
+  pub goes : Goes r (λ plan. take (todo K s.turn.left s.turn.moved) (drop s.place plan) ≡ best S (process S K) (todo K s.turn.left s.turn.moved) (joint K s.turn))
   pub long : Goes r (λ plan. length plan ≡ 128)
 
 abbrev pub put_at : {C : Type 0} → ℕ → ℕ → Option (Found C) → Option (Found C)

@@ -7,6 +7,7 @@ use rules::rule::Rule;
 use scales::scale::Scale;
 use words::found::Found;
 use words::group::Group;
+use words::turn::Turn;
 
 // The section x written into the plan that was found.
 fn put<C: Copy>(found: Option<Found<C>>, place: usize, x: u8) -> Option<Found<C>>
@@ -32,20 +33,23 @@ fn explore<S: Scale, R: Rule>(
     if bound.is_some_and(|b| !group.board.scale.lower(spot.sofar, b)) {
         return None;
     }
-    if spot.moved == group.board.trains {
-        if spot.left > 0 {
+    if spot.turn.moved == group.board.trains {
+        if spot.turn.left > 0 {
             return explore(group, spot.next_step(), bound);
         }
         let end = Found {
             cost: spot.sofar,
             plan: [0; 128],
         };
-        return group.board.all_home(spot.to).then_some(end);
+        return group.board.all_home(spot.turn.to).then_some(end);
     }
     let mut best: Option<Found<S::Cost>> = None;
     for x in 0..group.board.layout.sections() {
-        if group.board.may_move(spot.at, spot.to, spot.moved, x) {
-            let price = group.board.move_price(spot.at, spot.moved, x);
+        if group
+            .board
+            .may_move(spot.turn.at, spot.turn.to, spot.turn.moved, x)
+        {
+            let price = group.board.move_price(spot.turn.at, spot.turn.moved, x);
             let next = spot.after(x, group.board.scale.join(spot.sofar, price));
             let nearer = best.map(|f| f.cost).or(bound);
             let found = explore(group, next, nearer);
@@ -60,10 +64,7 @@ pub(crate) fn best_of<S: Scale, R: Rule>(group: &Group<S, R>) -> Option<Found<S:
     ensures the_least_cost_and_the_first_word_of_it { Solution (S.Scale.measure group.now.board.scale.now) (task R.Rule.conflicts group.now.board) group.now.steps group.now.start result }
 {
     let first = Spot {
-        at: group.start,
-        to: [0; 8],
-        moved: 0,
-        left: group.steps - 1,
+        turn: Turn::begin(group.steps - 1, group.start),
         place: 0,
         sofar: group.board.scale.nothing(),
     };

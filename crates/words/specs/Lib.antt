@@ -1,5 +1,6 @@
 pub mod Words
 pub mod Joint
+pub mod Turns
 pub mod Bridge
 pub mod Gathering
 pub mod Tasks

@@ -7,4 +7,5 @@ pub mod chosen;
 pub mod found;
 pub mod group;
 pub mod rests;
+pub mod turn;
 pub mod written;

@@ -15,15 +15,15 @@ returns-then-is_some_and g t c =
 
 pub returns-then-spot-gt0 : goal.returns-then-spot-gt0
 returns-then-spot-gt0 g t c =
-    let kt : c.args.group.now.board.trains ≤ length c.args.spot.to = search rules in
+    let kt : c.args.group.now.board.trains ≤ length c.args.spot.turn.to = search rules in
     let n = c.next_step.ensures.the_next_step_begins_there in
     let W = rw n at c.explore.ensures.the_best_that_stays_below_the_bound in
     record { the_best_that_stays_below_the_bound = walked_turn _ (g.met.S.Scale.lawful _) _ c.args.spot c.args.bound c.requires c.if-spot-group.true kt c.explore.result c.if-spot-gt0.true W }
 
 pub returns-then-spot-group : goal.returns-then-spot-group
 returns-then-spot-group g t c =
-    let kt : c.args.group.now.board.trains ≤ length c.args.spot.to = search rules in
-    let z : c.args.spot.left ≡ 0 = omega (arith, c.if-spot-gt0.false) in
+    let kt : c.args.group.now.board.trains ≤ length c.args.spot.turn.to = search rules in
+    let z : c.args.spot.turn.left ≡ 0 = omega (arith, c.if-spot-gt0.false) in
     let e : spent_up (g.S.Scale.measure c.args.group.now.board.scale.now) c.args.bound c.args.spot.sofar ≡ false = search rules in
     record {
       the_best_that_stays_below_the_bound = walked_end _ (g.met.S.Scale.lawful _) _ c.args.spot c.args.bound c.requires c.if-spot-group.true kt c.then_some.result (replicate 128 0) refl z e
@@ -32,22 +32,22 @@ returns-then-spot-group g t c =
 
 pub explore-found-requires : goal.explore-found-requires
 explore-found-requires g t c κs within =
-    let jk : c.args.spot.moved < c.args.group.now.board.trains = omega (arith, c.requires.in_group, c.if-spot-group.false) in
-    let la : c.args.group.now.board.trains ≤ length c.args.spot.at = search rules in
-    let lt : c.args.group.now.board.trains ≤ length c.args.spot.to = search rules in
+    let jk : c.args.spot.turn.moved < c.args.group.now.board.trains = omega (arith, c.requires.in_group, c.if-spot-group.false) in
+    let la : c.args.group.now.board.trains ≤ length c.args.spot.turn.at = search rules in
+    let lt : c.args.group.now.board.trains ≤ length c.args.spot.turn.to = search rules in
     let r = ready_next _ (g.met.S.Scale.lawful _) _ c.args.spot c.args.bound c.requires jk la lt c.loop-x.x in
     let e = c.join.ensures.both_costs_together ∙ ap ((g.S.Scale.measure c.args.group.now.board.scale.now).join c.args.spot.sofar) c.move_price-price.ensures.the_price_of_the_move in
     let n = c.after-next.ensures.the_next_train_has_gone_there in
     let m : Ready (g.S.Scale.measure c.args.group.now.board.scale.now) (task g.R.Rule.conflicts c.args.group.now.board) c.after-next.result = rw (n, e) r in
-    let l : c.after-next.result.left ≡ c.args.spot.left = ap (λ s. s.left) n in
-    let k : c.after-next.result.moved ≡ c.args.spot.moved + 1 = ap (λ s. s.moved) n in
+    let l : c.after-next.result.turn.left ≡ c.args.spot.turn.left = ap (λ s. s.turn.left) n in
+    let k : c.after-next.result.turn.moved ≡ c.args.spot.turn.moved + 1 = ap (λ s. s.turn.moved) n in
     search rules
 
 pub loop-x-preserved : goal.loop-x-preserved
 loop-x-preserved g t c =
-    let jk : c.args.spot.moved < c.args.group.now.board.trains = omega (arith, c.requires.in_group, c.if-spot-group.false) in
-    let la : c.args.group.now.board.trains ≤ length c.args.spot.at = search rules in
-    let lt : c.args.group.now.board.trains ≤ length c.args.spot.to = search rules in
+    let jk : c.args.spot.turn.moved < c.args.group.now.board.trains = omega (arith, c.requires.in_group, c.if-spot-group.false) in
+    let la : c.args.group.now.board.trains ≤ length c.args.spot.turn.at = search rules in
+    let lt : c.args.group.now.board.trains ≤ length c.args.spot.turn.to = search rules in
     elim c.if-may_move.branch [
       | then-may_move w ↦
           let e = w.join.ensures.both_costs_together ∙ ap ((g.S.Scale.measure c.args.group.now.board.scale.now).join c.args.spot.sofar) w.move_price-price.ensures.the_price_of_the_move in
@@ -65,8 +65,8 @@ loop-x-preserved g t c =
 
 pub returns : goal.returns
 returns g t c =
-    let jk : c.args.spot.moved < c.args.group.now.board.trains = omega (arith, c.requires.in_group, c.if-spot-group.false) in
-    let la : c.args.group.now.board.trains ≤ length c.args.spot.at = search rules in
-    let lt : c.args.group.now.board.trains ≤ length c.args.spot.to = search rules in
+    let jk : c.args.spot.turn.moved < c.args.group.now.board.trains = omega (arith, c.requires.in_group, c.if-spot-group.false) in
+    let la : c.args.group.now.board.trains ≤ length c.args.spot.turn.at = search rules in
+    let lt : c.args.group.now.board.trains ≤ length c.args.spot.turn.to = search rules in
     let e : c.loop-x.x ≡ sections_of c.args.group.now.board.layout.now = omega (arith, c.loop-x-test.false, c.loop-x.auto, c.sections-x-end.ensures.how_many_sections_there_are) in
     record { the_best_that_stays_below_the_bound = scan_all _ (g.met.S.Scale.lawful _) _ c.args.spot c.args.bound c.requires jk la lt _ (rw e at c.loop-x.invariant) }

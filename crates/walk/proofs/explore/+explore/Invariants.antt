@@ -4,7 +4,7 @@ use Rattle.walk.proofs.Scans.{Scan}
 use Rattle.walk.proofs.explore.+explore.Given as goal
 
 abbrev pub decreases-explore : goal.decreases-explore
-decreases-explore g l = 9 * l.spot.left + (l.group.now.board.trains - l.spot.moved)
+decreases-explore g l = 9 * l.spot.turn.left + (l.group.now.board.trains - l.spot.turn.moved)
 
 abbrev pub invariant-loop-x : goal.invariant-loop-x
 invariant-loop-x g l =

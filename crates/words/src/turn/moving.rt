@@ -1,11 +1,11 @@
 ghost use Rattle.std.specs.Prelude.{◌≡◌, ◌<◌};
-ghost use Rattle.table.specs.Turns.{begun, after};
+ghost use Rattle.words.specs.Turns.{begun, after};
 
 use crate::turn::Turn;
 
 impl Turn {
     // As the step begins: no train has moved.
-    pub(crate) fn begin(left: usize, at: [u8; 8]) -> Turn
+    pub fn begin(left: usize, at: [u8; 8]) -> Turn
         ensures no_train_has_moved { result ≡ begun left at }
     {
         Turn {
@@ -17,7 +17,7 @@ impl Turn {
     }
 
     // After the next train has gone to x.
-    pub(crate) fn after(&self, x: u8) -> Turn
+    pub fn after(&self, x: u8) -> Turn
         requires { self.now.moved < 8 }
         ensures the_next_train_has_gone_there { result ≡ after self.now x }
     {
