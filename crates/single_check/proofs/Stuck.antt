@@ -10,7 +10,7 @@ use Rattle.sheets.specs.Posing.{marked}
 use Rattle.sheets.specs.declared.question.Question.{Question}
 use Rattle.sheets.specs.Problem.{Problem, Group, Member}
 use Rattle.sheets.specs.Plan.{Plan, Lawful, Without}
-use Rattle.sheets.specs.Inquiry.{Inquiry, problem_of}
+use Rattle.sheets.specs.Inquiry.{Inquiry, problem_asked}
 use Rattle.sheets.specs.Theorems.{Same}
 use Rattle.sheets.specs.declared.sheet.Sheet.{Sheet}
 use Rattle.search.specs.Answers.{Answered}
@@ -56,12 +56,12 @@ taken_same i T U s = record { to = ⊎_elim inl (λ t. inr (s.to t)); back = ⊎
 
 -- what is told of a row: whether its train is stuck
 abbrev pub Told : Question → Bool → (r : ℕ) → Type 0
-Told q b r = (k : Conflicts) → Same (b ≡ true) (StuckTrain (problem_of k q.layout.now q.roster.now q.steps) (marked q.group) r)
+Told q b r = (k : Conflicts) → Same (b ≡ true) (StuckTrain (problem_asked k q) (marked q.group) r)
 
 -- some of the rows is told to be stuck, or all are told not to be
 pub stuck_among : (q : Question) (n : ℕ) → n ≡ rows_of q.roster.now → (b : Bool)
     → MatchBool b ((i : ℕ) × (i < length (range_with_len 0 n)) × HoldsAt (Told q true) (range_with_len 0 n) i) (AllWithin (Told q false) (range_with_len 0 n) 0 (length (range_with_len 0 n)))
-    → (k : Conflicts) → Same (b ≡ true) (StuckIn (problem_of k q.layout.now q.roster.now q.steps) (marked q.group))
+    → (k : Conflicts) → Same (b ≡ true) (StuckIn (problem_asked k q) (marked q.group))
 stuck_among q n e true h k = record { to = λ z. (_, (h.2 0 k).to refl); back = λ s. refl }
 stuck_among q n e false h k = record {
   to = λ z. absurd (false≢true z);

@@ -1,7 +1,7 @@
 ghost use Rattle.std.specs.Prelude.{◌≡◌, ◌<◌, true, ◌⊎◌};
 ghost use Rattle.rules.specs.Conflicts.{Conflicts};
 ghost use Rattle.roster.specs.Model.{rows_of};
-ghost use Rattle.sheets.specs.Inquiry.{problem_of};
+ghost use Rattle.sheets.specs.Inquiry.{problem_asked};
 ghost use Rattle.sheets.specs.Posing.{marked};
 ghost use Rattle.sheets.specs.Theorems.{Same};
 ghost use Rattle.single_check.specs.Ways.{StuckTrain, StuckIn, Stuck};
@@ -20,7 +20,7 @@ use sheets::sheet::Sheet;
 // Whether the train of a row is of the group, and alone cannot reach its goal.
 fn is_stuck(question: &Question, row: usize) -> bool
     requires { row < rows_of question.now.roster.now }
-    ensures true_exactly_if_the_train_is_stuck { (k : Conflicts) → Same (result ≡ true) (StuckTrain (problem_of k question.now.layout.now question.now.roster.now question.now.steps) (marked question.now.group) row) }
+    ensures true_exactly_if_the_train_is_stuck { (k : Conflicts) → Same (result ≡ true) (StuckTrain (problem_asked k question.now) (marked question.now.group) row) }
 {
     let member = question.group[row];
     member && fewest_steps(question, row).is_none()
@@ -28,7 +28,7 @@ fn is_stuck(question: &Question, row: usize) -> bool
 
 // Whether some train of the group alone cannot reach its goal.
 fn some_train_is_stuck(question: &Question) -> bool
-    ensures true_exactly_if_some_train_is_stuck { (k : Conflicts) → Same (result ≡ true) (StuckIn (problem_of k question.now.layout.now question.now.roster.now question.now.steps) (marked question.now.group)) }
+    ensures true_exactly_if_some_train_is_stuck { (k : Conflicts) → Same (result ≡ true) (StuckIn (problem_asked k question.now) (marked question.now.group)) }
 {
     (0..question.roster.count()).any(|row| is_stuck(question, row))
 }

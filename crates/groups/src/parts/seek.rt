@@ -1,6 +1,6 @@
 ghost use Rattle.std.specs.Prelude.{◌≡◌, ◌+◌, ◌<◌, not, ◌&&◌, MatchOption, ◌==◌, slice_index};
 ghost use Rattle.roster.specs.Model.{rows_of};
-ghost use Rattle.sheets.specs.Inquiry.{problem_of, plan_of};
+ghost use Rattle.sheets.specs.Inquiry.{problem_asked, plan_of};
 ghost use Rattle.sheets.specs.Posing.{marked};
 ghost use Rattle.groups.specs.Parts.{parts, NoClash, FirstClash};
 ghost use Rattle.groups.specs.Model.{naming};
@@ -54,7 +54,7 @@ impl Parts {
         question: &Question,
         sheet: &Sheet,
     ) -> Option<Conflict>
-        ensures the_first_conflict_between_parts_or_none { MatchOption result (NoClash (problem_of (R.Rule.conflicts rule.now question.now.layout.now) question.now.layout.now question.now.roster.now question.now.steps) (marked question.now.group) (naming self.now) (plan_of sheet.now)) (λ c. FirstClash (problem_of (R.Rule.conflicts rule.now question.now.layout.now) question.now.layout.now question.now.roster.now question.now.steps) (marked question.now.group) (naming self.now) (plan_of sheet.now) c.step c.row c.other) }
+        ensures the_first_conflict_between_parts_or_none { MatchOption result (NoClash (problem_asked (R.Rule.conflicts rule.now question.now.layout.now) question.now) (marked question.now.group) (naming self.now) (plan_of sheet.now)) (λ c. FirstClash (problem_asked (R.Rule.conflicts rule.now question.now.layout.now) question.now) (marked question.now.group) (naming self.now) (plan_of sheet.now) c.step c.row c.other) }
     {
         let rows = question.roster.count();
         // three loops, left at the first conflict: a chain would carry a triple through two more closures

@@ -1,7 +1,7 @@
 use Rattle.std.proofs.Common.{arith}
 use Rattle.track.proofs.Laws.{sections_most}
 use Rattle.sheets.proofs.Posed.{sound}
-use Rattle.sheets.specs.Inquiry.{problem_of}
+use Rattle.sheets.specs.Inquiry.{problem_asked}
 use Rattle.single_check.proofs.Reaching.{sofar_none, sofar_found, sofar_more}
 use Rattle.single_check.proofs.reach.fewest_between.Goals as goal
 
@@ -14,7 +14,7 @@ overflow_add-times c = omega (arith, (sound c.args.question.now).steps_most)
 pub loop-steps-init : goal.loop-steps-init
 loop-steps-init c =
     let q = c.args.question.now in
-    λ k. rw c.from.ensures (sofar_none (problem_of k q.layout.now q.roster.now q.steps) c.args.start c.args.goal (omega (arith, c.requires.start_inside, sections_most q.layout.now)) c.requires.start_inside c.requires.start_open)
+    λ k. rw c.from.ensures (sofar_none (problem_asked k q) c.args.start c.args.goal (omega (arith, c.requires.start_inside, sections_most q.layout.now)) c.requires.start_inside c.requires.start_open)
 
 pub bounds-reached-from-in-loop-steps : goal.bounds-reached-from-in-loop-steps
 bounds-reached-from-in-loop-steps c = omega (arith, c.requires.goal_inside, sections_most c.args.question.now.layout.now)
@@ -23,7 +23,7 @@ pub returns-then-reached-from : goal.returns-then-reached-from
 returns-then-reached-from c =
     let q = c.args.question.now in
     record {
-      the_fewest_steps_from_one_to_the_other = λ k. sofar_found (problem_of k q.layout.now q.roster.now q.steps) c.args.start c.args.goal c.loop-steps.steps c.loop-steps.reached (c.loop-steps.invariant k) (omega (arith, c.loop-steps-test.true)) (rw c.from-in-loop-steps.ensures at c.if-reached-from.true);
+      the_fewest_steps_from_one_to_the_other = λ k. sofar_found (problem_asked k q) c.args.start c.args.goal c.loop-steps.steps c.loop-steps.reached (c.loop-steps.invariant k) (omega (arith, c.loop-steps-test.true)) (rw c.from-in-loop-steps.ensures at c.if-reached-from.true);
     }
 
 pub loop-steps-preserved : goal.loop-steps-preserved

@@ -1,7 +1,7 @@
 use Rattle.rules.specs.Conflicts.{Conflicts}
-use Rattle.sheets.specs.Inquiry.{problem_of}
+use Rattle.sheets.specs.Inquiry.{problem_asked}
 use Rattle.single_check.proofs.Reaching.{Sofar}
 use Rattle.single_check.proofs.reach.fewest_between.Given as goal
 
 abbrev pub invariant-loop-steps : goal.invariant-loop-steps
-invariant-loop-steps l = (k : Conflicts) → Sofar (problem_of k l.question.layout.now l.question.roster.now l.question.steps) l.steps l.start l.goal l.reached
+invariant-loop-steps l = (k : Conflicts) → Sofar (problem_asked k l.question) l.steps l.start l.goal l.reached

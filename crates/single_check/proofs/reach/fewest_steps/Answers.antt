@@ -1,6 +1,6 @@
 use Rattle.std.proofs.Common.{true, ap, ◌∙◌, subst, arith}
 use Rattle.roster.specs.Model.{closed_of}
-use Rattle.sheets.specs.Inquiry.{problem_of}
+use Rattle.sheets.specs.Inquiry.{problem_asked}
 use Rattle.sheets.proofs.Posed.{posed_of}
 use Rattle.single_check.specs.Ways.{FewestBetween}
 use Rattle.single_check.proofs.reach.fewest_steps.Goals as goal
@@ -21,5 +21,5 @@ returns-clause-the_fewest_steps_in_which_the_train_reaches_its_goal c = λ k h.
     let q = c.args.question.now in
     let on = c.in_ok-train.ensures.a_row_has_its_start_and_goal in
     let found = c.fewest_between.result in
-    let Q = problem_of k q.layout.now q.roster.now q.steps in
+    let Q = problem_asked k q in
     subst (λ b. FewestBetween Q (Q.start c.args.row) b found) on.goal (subst (λ a. FewestBetween Q a c.in_ok-train.train.goal found) on.start (c.fewest_between.ensures.the_fewest_steps_from_one_to_the_other k))

@@ -6,8 +6,8 @@ use Rattle.single_check.proofs.reach.spread.Goals.{then-marked, else-marked}
 
 pub loop-a-preserved : goal.loop-a-preserved
 loop-a-preserved c =
-    let l = c.args.layout.now in
-    let o = c.args.roster.now in
+    let l = c.args.question.now.layout.now in
+    let o = c.args.question.now.roster.now in
     let m = c.args.reached.now in
     let a = c.loop-a.a in
     elim c.if-marked.branch [

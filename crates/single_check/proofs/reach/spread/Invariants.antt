@@ -3,4 +3,4 @@ use Rattle.single_check.proofs.Marking.{FromBelow}
 use Rattle.single_check.proofs.reach.spread.Given as goal
 
 abbrev pub invariant-loop-a : goal.invariant-loop-a
-invariant-loop-a l = Widened l.marked-items (FromBelow l.layout l.roster l.marked-items l.a) l.reached
+invariant-loop-a l = Widened l.marked-items (FromBelow l.question.layout.now l.question.roster.now l.marked-items l.a) l.reached

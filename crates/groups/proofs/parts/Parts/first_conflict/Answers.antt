@@ -1,5 +1,5 @@
 use Rattle.std.proofs.Common.{◌≡◌, false, arith}
-use Rattle.sheets.specs.Inquiry.{problem_of, plan_of}
+use Rattle.sheets.specs.Inquiry.{problem_asked, plan_of}
 use Rattle.sheets.specs.Posing.{marked}
 use Rattle.sheets.proofs.Posed.{sound}
 use Rattle.groups.specs.Model.{naming}
@@ -13,7 +13,7 @@ clashes-requires g c = omega (arith, (sound c.args.question.now).steps_most)
 pub loop-other-preserved : goal.loop-other-preserved
 loop-other-preserved g c =
     let q = c.args.question.now in
-    let Q = problem_of (g.R.Rule.conflicts c.args.rule.now q.layout.now) q.layout.now q.roster.now q.steps in
+    let Q = problem_asked (g.R.Rule.conflicts c.args.rule.now q.layout.now) q in
     let i = c.loop-other.invariant in
     let t = c.loop-step.step in
     let r = c.loop-row.row in
