@@ -1,7 +1,7 @@
 use crate::part::Part;
 
 // What a line asks for, with the part of the line that has its fields.
-#[derive(Clone, Copy)]
+#[derive(Clone, Copy, PartialEq, Eq, Debug)]
 pub enum Frame<'a> {
     // 01 k: adds k sections
     AddSections(Part<'a>),

@@ -71,7 +71,8 @@ pub fn print_refusal(refusal: &Refusal, out: &mut [u8]) -> Result<usize, Refusal
 }
 
 // Prints a plan: where each train stands at times 0 to `steps` (at most 16), the cost, and how many groups there are.
-// The arguments stay apart: a struct of them would be made for this one call, and taken apart at once.
+// The arguments stay apart: no other function takes these together. `write_trains` takes four of them,
+// and a struct of those would be made for its one call and taken apart in it.
 pub fn print_plan<S: PrintedScale>(
     scale: &S,
     roster: &Roster,

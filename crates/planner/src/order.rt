@@ -2,6 +2,7 @@ use crate::note::Note;
 use roster::train::Train;
 
 // A call to a planner.
+// It and the reply have no derives: a note can be neither copied nor let go, and a test of equality of notes would say nothing.
 pub enum Order {
     Enter(Train),
     // the train with this number

@@ -15,6 +15,8 @@ pub mod plan;
 
 // Plans the trains of its roster on its layout, under a rule and a scale, by the grouping over a search.
 // All starts and goals of the roster are on the layout.
+// Clauses name `meaning R.Rule.conflicts S.Scale.measure Q.Search.takes` each time: an impl of a type has no ghost member
+// to say it once, and as the member of a trait it would be no shorter, `⟦<Planner<R, S, Q> as Meant>⟧.meaning`.
 #[derive(Drop)]
 pub struct Planner<R, S, Q> {
     pub(crate) layout: Layout,
