@@ -20,6 +20,18 @@ impl<R: Rule, S: Scale, Q: Search<S>> Planner<R, S, Q> {
         ensures the_reply_is_kept_after_any_calls { Step (meaning R.Rule.conflicts S.Scale.measure Q.Search.takes) self.old (event (call_of order (length cells.old)) (reply_of result) sheet.old sheet.new) self.new }
         ensures every_reply_is_kept_over_any_history_of_calls { (made : Planner R S Q) (es : List (Event S.Cost)) → History (meaning R.Rule.conflicts S.Scale.measure Q.Search.takes) made es self.old → History (meaning R.Rule.conflicts S.Scale.measure Q.Search.takes) made (es ++ (event (call_of order (length cells.old)) (reply_of result) sheet.old sheet.new ∷ [])) self.new }
     {
+        self.make_call(order, cells, sheet)
+    }
+
+    // Makes the call that the order stands for. Apart from `answer`, whose second clause then follows once, and not at each way out.
+    fn make_call(
+        &mut self,
+        order: Order,
+        cells: &mut [Option<S::Cost>],
+        sheet: &mut Sheet,
+    ) -> Result<Told<S::Cost>, Refusal>
+        ensures the_reply_is_kept_after_any_calls { Step (meaning R.Rule.conflicts S.Scale.measure Q.Search.takes) self.old (event (call_of order (length cells.old)) (reply_of result) sheet.old sheet.new) self.new }
+    {
         match order {
             Order::Enter(train) => {
                 self.enter(train)?;
