@@ -3,7 +3,7 @@ use Rattle.std.proofs.Common.{◌≡◌, ℕ, [], Ok, Err, Result, MatchResult, 
 use Rattle.std.specs.Result.{result_and}
 use Rattle.track.specs.Model.{drawn, laid}
 use Rattle.track.specs.declared.refusal.Refusal.{Refusal}
-use Rattle.roster.specs.Book.{Call}
+use Rattle.roster.specs.Book.{Call, plan}
 use Rattle.sheets.specs.declared.sheet.Sheet.{Sheet}
 use Rattle.planner.specs.Promise.{Reply, accepted}
 use Rattle.planner.specs.History.{Meaning, Stands, Step, event, says_done, says_plan}
@@ -31,6 +31,11 @@ module _ {R S Q C : Type 0} (k : Meaning R S Q C) (rule : R) (scale : S) (below 
       ((refl, refl), record { made = p; made_of = record { layout = a ∙ h.drawing; its_rule = b ∙ h.its_rule; its_scale = c ∙ h.its_scale; its_search = e ∙ h.its_search }; stands = st })
   finish_turn d p s a b c e st (planning m calls) h = absurd h
 
+  -- a plan call with as many steps as another
+  pub plan_step : (p q : Planner R S Q) (n steps cells : ℕ) (reply : Reply C) (old new : Sheet) → Step k p (event (plan n cells) reply old new) q → n ≡ steps
+      → Step k p (event (plan steps cells) reply old new) q
+  plan_step p q n steps cells reply old new h e = rw (sym e) h
+
   -- a call to the planner
   pub call_turn : (p q : Planner R S Q) (c : Call) (reply : Reply C) (old new : Sheet) → Step k p (event c reply old new) q
       → TurnOwes k rule scale below (Planning p) (call c) reply old new (Planning q)
@@ -41,7 +46,7 @@ module _ {R S Q C : Type 0} (k : Meaning R S Q C) (rule : R) (scale : S) (below 
 
 -- the reply of a call that gives nothing
 module _ {C : Type 0} (r : Result (Unit {0}) Refusal) (t : Result (Said C) Refusal) where
-  pub done_said : t ≡ result_and r (Ok Done) → reply_of t ≡ says_done r
+  done_said : t ≡ result_and r (Ok Done) → reply_of t ≡ says_done r
   done_said e = ap reply_of e ∙ go r
     where
       go : (x : Result (Unit {0}) Refusal) → reply_of {C = C} (result_and x (Ok Done)) ≡ says_done x
@@ -54,6 +59,12 @@ module _ {C : Type 0} (r : Result (Unit {0}) Refusal) (t : Result (Said C) Refus
       go : (x : Result (Unit {0}) Refusal) → NamesSteps {C = C} steps (result_and x (Ok Done))
       go (Ok u) = tt
       go (Err x) = tt
+
+-- a turn whose call gives nothing
+module _ {R S Q C : Type 0} (k : Meaning R S Q C) (rule : R) (scale : S) (below : Q) where
+  pub done_turn : (p o next : Phase R S Q) (a b : Asked) (r : Result (Unit {0}) Refusal) (t : Result (Said C) Refusal) (s : Sheet) → p ≡ o → a ≡ b
+      → t ≡ result_and r (Ok Done) → TurnOwes k rule scale below o b (says_done r) s s next → TurnOwes k rule scale below p a (reply_of t) s s next
+  done_turn p o next a b r t s e f d h = turn_as k rule scale below p o next a b _ _ s s e f (done_said r t d) h
 
 -- the reply of a plan
 module _ {C : Type 0} (r : Result (C × ℕ) Refusal) (t : Result (Said C) Refusal) (steps : ℕ) where
