@@ -4,13 +4,13 @@ use Rattle.sheets.specs.Plan.{cost}
 use Rattle.sheets.specs.Theorems.{Same}
 use Rattle.sheets.specs.Inquiry.{Inquiry, plan_of}
 use Rattle.sheets.specs.declared.sheet.Sheet.{Sheet}
-use Rattle.search.specs.Answers.{OthersKept}
+use Rattle.search.specs.Answers.{SameMeaning, OthersKept}
 use Rattle.groups.specs.Parts.{Naming}
 use Rattle.groups.specs.Course.{Outcome, found}
 use Rattle.groups.proofs.Moved.{course_moved, whole_moved}
 use Rattle.grouping.specs.Ends.{about, Ends, Given}
 use Rattle.grouping.specs.Asking.{Stand, EndsIn}
-use Rattle.grouping.specs.Following.{SameMeaning, others_trans}
+use Rattle.grouping.specs.Following.{others_trans}
 
 same_back : {A B : Type 0} → Same A B → Same B A
 same_back s = record { to = s.back; back = s.to }

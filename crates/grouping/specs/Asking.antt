@@ -4,7 +4,6 @@ use Rattle.roster.specs.Model.{rows_of}
 use Rattle.sheets.specs.Posing.{marked}
 use Rattle.sheets.specs.Plan.{Plan, SameOn}
 use Rattle.sheets.specs.Inquiry.{Inquiry, plan_of}
-use Rattle.sheets.specs.Theorems.{Same}
 use Rattle.sheets.specs.declared.question.Question.{Question}
 use Rattle.sheets.specs.declared.sheet.Sheet.{Sheet}
 use Rattle.search.specs.declared.answer.Unplanned.{Unplanned}
@@ -12,10 +11,6 @@ use Rattle.groups.specs.Parts.{Naming}
 use Rattle.groups.specs.Course.{found}
 use Rattle.groups.specs.Onward.{Reached}
 use Rattle.grouping.specs.Ends.{about, ending, Ends}
-
--- the same groups are taken, whatever is asked and with any number of cells
-abbrev pub SameMeaning : {C : Type 0} → (new old : Inquiry C → ℕ → Type 0) → Type 0
-SameMeaning {C} new old = (i : Inquiry C) (n : ℕ) → Same (new i n) (old i n)
 
 -- the marks are of some rows of the question's group
 pub record SomeRows (q : Question) (marks : List Bool) : Type 0 where

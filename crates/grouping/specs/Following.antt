@@ -3,10 +3,9 @@ use Rattle.std.specs.Prelude.{◌≡◌, ℕ, ◌+◌, ◌<◌, true, false, ◌
 use Rattle.std.proofs.Common.{sym, ◌∙◌, ap, subst, arith, add-one}
 use Rattle.std.proofs.lemmas.Bool.{both_ways}
 use Rattle.sheets.specs.Problem.{Problem, Group, Member}
-use Rattle.sheets.specs.Theorems.{Same}
 use Rattle.sheets.specs.Inquiry.{Inquiry, plan_of}
 use Rattle.sheets.specs.declared.sheet.Sheet.{Sheet}
-use Rattle.search.specs.Answers.{Answered, OthersKept}
+use Rattle.search.specs.Answers.{SameMeaning, Answered, OthersKept}
 use Rattle.search.specs.declared.answer.Unplanned.{Unplanned}
 use Rattle.search.specs.declared.answer.Unplanned.TheVariants.{BeyondReach, NoSheet}
 use Rattle.groups.specs.Parts.{Naming, Names, part, alone, merged, union, parts, NoClash, FirstClash}
@@ -17,10 +16,6 @@ use Rattle.groups.proofs.Fewer.{merged_fewer}
 use Rattle.groups.proofs.Onward.{KeptBut, opened_start, opened_pass, opened_not_taken, opened_none, opened_next, reached_start, reached_not_taken, reached_none, reached_next, reached_end}
 use Rattle.grouping.specs.Ends.{about, ending, Ends}
 use Rattle.grouping.specs.Asking.{Stand, EndsIn}
-
--- two meanings are one
-abbrev pub SameMeaning : {C : Type 0} → (a b : Inquiry C → ℕ → Type 0) → Type 0
-SameMeaning {C} a b = (i : Inquiry C) (n : ℕ) → Same (a i n) (b i n)
 
 pub same_trans : {C : Type 0} (a b c : Inquiry C → ℕ → Type 0) → SameMeaning a b → SameMeaning b c → SameMeaning a c
 same_trans a b c p q i n = record { to = λ h. (q i n).to ((p i n).to h); back = λ h. (p i n).back ((q i n).back h) }

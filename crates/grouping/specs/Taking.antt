@@ -9,7 +9,7 @@ use Rattle.sheets.specs.Plan.{Plan}
 use Rattle.sheets.specs.Inquiry.{Inquiry, plan_of}
 use Rattle.sheets.specs.declared.sheet.Sheet.{Sheet}
 use Rattle.sheets.proofs.Sheets.{best_same}
-use Rattle.search.specs.Answers.{OneTrain, Answered, Solved}
+use Rattle.search.specs.Answers.{SameMeaning, OneTrain, Answered, Solved}
 use Rattle.search.specs.declared.answer.Unplanned.{Unplanned}
 use Rattle.search.specs.declared.answer.Unplanned.TheVariants.{BeyondReach, NoSheet}
 use Rattle.groups.specs.Parts.{Naming, part, alone, FirstClash}
@@ -19,7 +19,6 @@ use Rattle.groups.proofs.Once.{a_course_has_one_outcome}
 use Rattle.groups.proofs.Right.{a_course_is_right}
 use Rattle.groups.proofs.Moved.{whole_moved}
 use Rattle.grouping.specs.Ends.{about, taken, ending, Ends, NeverBeyond, Given}
-use Rattle.grouping.specs.Following.{SameMeaning}
 
 -- ---- a group of one train
 count_none : (n : ℕ) (f : ℕ → Bool) → ((i : ℕ) → i < n → f i ≡ false) → count n f ≡ 0

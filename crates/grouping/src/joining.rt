@@ -1,11 +1,10 @@
-ghost use Rattle.std.specs.Prelude.{◌≡◌, ℕ, ◌<◌, length};
-ghost use Rattle.roster.specs.Model.{rows_of};
+ghost use Rattle.std.specs.Prelude.{◌≡◌, length};
 ghost use Rattle.sheets.specs.Posing.{marked};
 ghost use Rattle.sheets.specs.Inquiry.{inquired};
-ghost use Rattle.search.specs.Answers.{Answered, OthersKept};
+ghost use Rattle.search.specs.Answers.{SameMeaning, Answered, OthersKept};
 ghost use Rattle.groups.specs.Parts.{alone};
 ghost use Rattle.grouping.specs.Ends.{about, Told};
-ghost use Rattle.grouping.specs.Asking.{SameMeaning, SomeRows, OrEnds, Stand, EndsIn};
+ghost use Rattle.grouping.specs.Asking.{SomeRows, OrEnds, Stand, EndsIn};
 
 use groups::parts::Parts;
 use rules::rule::Rule;
@@ -47,14 +46,6 @@ fn ask_for<S: Scale, R: Rule, Q: Search<S>>(
     below.search(&asked, cells, draft)
 }
 
-// Whether each train, by its row, is of the question's group.
-fn members<'a>(question: &'a Question) -> &'a [bool]
-    ensures one_mark_for_each_train { length result.now ≡ rows_of question.now.roster.now }
-    ensures as_the_group_is_marked { (row : ℕ) → row < rows_of question.now.roster.now → marked result.now row ≡ marked question.now.group row }
-{
-    &question.group[..question.roster.count()]
-}
-
 // Asks below for each train of the group alone, in rising order.
 fn ask_each_alone<S: Scale, R: Rule, Q: Search<S>>(
     below: &mut Q,
@@ -68,7 +59,7 @@ fn ask_each_alone<S: Scale, R: Rule, Q: Search<S>>(
 {
     let parts = Parts::alone();
     let question = asked.question;
-    let members = members(question);
+    let members = question.marks();
     for (row, member) in members.iter().enumerate() {
         if *member {
             let marks = parts.marks(question.group, row);

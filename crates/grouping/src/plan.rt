@@ -1,6 +1,6 @@
 ghost use Rattle.std.specs.Prelude.{◌≡◌, length};
 ghost use Rattle.sheets.specs.Inquiry.{inquired};
-ghost use Rattle.grouping.specs.Asking.{SameMeaning};
+ghost use Rattle.search.specs.Answers.{SameMeaning};
 ghost use Rattle.grouping.specs.Ends.{Told, OneOutcome, ExistsWhereDecided, RightForAll, BestTogether, NoneForAll};
 
 use crate::grouping::Grouping;

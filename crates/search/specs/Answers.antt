@@ -3,6 +3,7 @@ use Rattle.std.specs.Prelude.{◌≡◌, ℕ, ◌+◌, ◌*◌, ◌≤◌, Ok, E
 use Rattle.sheets.specs.Problem.{Member}
 use Rattle.sheets.specs.Plan.{Best, Without, cost}
 use Rattle.sheets.specs.Inquiry.{Inquiry, plan_of, trains}
+use Rattle.sheets.specs.Theorems.{Same}
 use Rattle.sheets.specs.declared.sheet.Sheet.{Sheet}
 use Rattle.search.specs.declared.answer.Unplanned.{Unplanned}
 use Rattle.search.specs.declared.answer.Unplanned.TheVariants.{BeyondReach, NoSheet}
@@ -11,6 +12,10 @@ use Rattle.search.specs.declared.answer.Unplanned.TheVariants.{BeyondReach, NoSh
 pub record OneTrain {C : Type 0} (i : Inquiry C) (cells : ℕ) : Type 0 where
   pub one : trains i ≡ 1
   pub room : i.problem.sections * (i.problem.steps + 1) ≤ cells
+
+-- the same groups are taken, whatever is asked and with any number of cells
+abbrev pub SameMeaning : {C : Type 0} → (new old : Inquiry C → ℕ → Type 0) → Type 0
+SameMeaning {C} new old = (i : Inquiry C) (n : ℕ) → Same (new i n) (old i n)
 
 -- no place of the sheet is written but those of the group's rows at times 0 to the last
 abbrev pub OthersKept : {C : Type 0} → Inquiry C → Sheet → Sheet → Type 0

@@ -1,7 +1,6 @@
 ghost use Rattle.std.specs.Prelude.{◌≡◌, ℕ, length};
 ghost use Rattle.sheets.specs.Inquiry.{Inquiry, inquired};
-ghost use Rattle.sheets.specs.Theorems.{Same};
-ghost use Rattle.search.specs.Answers.{OneTrain, Answered};
+ghost use Rattle.search.specs.Answers.{OneTrain, SameMeaning, Answered};
 
 use crate::answer::Answer;
 use rules::rule::Rule;
@@ -22,7 +21,7 @@ pub trait Search<S: Scale> {
         cells: &mut [Option<S::Cost>],
         sheet: &mut Sheet,
     ) -> Answer<S::Cost>
-        ensures asking_leaves_the_meaning { (i : Inquiry S.Cost) (n : ℕ) → Same (takes self.new i n) (takes self.old i n) }
+        ensures asking_leaves_the_meaning { SameMeaning (takes self.new) (takes self.old) }
         ensures the_answer_is_right { Answered (inquired R.Rule.conflicts S.Scale.measure asked.now) (takes self.old (inquired R.Rule.conflicts S.Scale.measure asked.now) (length cells.old)) sheet.old sheet.new result };
 
     ghost one_train: { (s : Self) (i : Inquiry S.Cost) (cells : ℕ) → OneTrain i cells → takes s i cells };

@@ -32,7 +32,7 @@ fn all_rows(roster: &Roster, group: [bool; 8]) -> bool
     group[roster.count()..].iter().all(|marked| !*marked)
 }
 
-fn members(roster: &Roster, group: [bool; 8]) -> usize
+fn how_many_marked(roster: &Roster, group: [bool; 8]) -> usize
     ensures how_many_rows_are_marked { result ≡ count (rows_of roster.now) (marked group) }
 {
     group[..roster.count()]
@@ -60,7 +60,7 @@ pub fn ask<'a, 'b>(
     if steps == 0 || steps > 16 {
         return Err(Refusal::StepsOutOfRange);
     }
-    if members(roster, group) == 0 {
+    if how_many_marked(roster, group) == 0 {
         return Err(Refusal::RosterEmpty);
     }
     Ok(Question {

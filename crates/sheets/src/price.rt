@@ -10,24 +10,27 @@ ghost use Rattle.sheets.specs.Inquiry.{over, problem_asked, plan_of};
 use crate::question::Question;
 use crate::sheet::Sheet;
 use roster::train::Train;
+use rules::moves::Move;
 use scales::scale::Scale;
 use track::layout::Layout;
 
 // The points run over in a move: none when standing.
-pub fn run_over(layout: &Layout, a: u8, b: u8) -> u8
-    ensures the_points_of_the_link_or_none_when_standing { result ≡ over layout.now a b }
+// No lawful sheet has a move where there is no link; it counts 0, so that every sheet has a cost.
+pub fn run_over(layout: &Layout, step: Move) -> u8
+    ensures the_points_of_the_link_or_none_when_standing { result ≡ over layout.now step.from step.to }
 {
-    if a == b {
-        return 0;
+    if step.runs() {
+        layout.points(step.from, step.to).unwrap_or(0)
+    } else {
+        0
     }
-    layout.points(a, b).unwrap_or(0)
 }
 
-// The price of a move from a to b, of a train with this goal.
-pub fn move_price<S: Scale>(scale: &S, layout: &Layout, a: u8, b: u8, goal: u8) -> S::Cost
-    ensures the_price_of_its_points_and_of_standing_at_the_goal { result ≡ (S.Scale.measure scale.now).price (over layout.now a b) (a == goal && b == goal) }
+// The price of a move of a train with this goal.
+pub fn move_price<S: Scale>(scale: &S, layout: &Layout, step: Move, goal: u8) -> S::Cost
+    ensures the_price_of_its_points_and_of_standing_at_the_goal { result ≡ (S.Scale.measure scale.now).price (over layout.now step.from step.to) (step.from == goal && step.to == goal) }
 {
-    scale.price(run_over(layout, a, b), a == goal && b == goal)
+    scale.price(run_over(layout, step), step.from == goal && step.to == goal)
 }
 
 // What the steps of a question cost for a train that stands in these sections, one time after the other.
@@ -37,7 +40,10 @@ fn steps_cost<S: Scale>(scale: &S, question: &Question, sections: [u8; 17], goal
     let mut total = scale.nothing();
     let mut at = sections[0];
     for to in &sections[1..=question.steps] {
-        total = scale.join(total, move_price(scale, question.layout, at, *to, goal));
+        total = scale.join(
+            total,
+            move_price(scale, question.layout, Move::new(at, *to), goal),
+        );
         at = *to;
     }
     total

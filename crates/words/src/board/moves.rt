@@ -10,12 +10,12 @@ use scales::scale::Scale;
 use sheets::price::move_price;
 
 impl<'a, S, R> Board<'a, S, R> {
-    // Whether a train in a may stand there or run to b, which is open.
-    fn open_to(&self, a: u8, b: u8) -> bool
-        ensures whether_the_move_is_open { result ≡ open_to self.now.layout.now self.now.roster.now a b }
+    // Whether the train may stand there or run over a link, to a section that is open.
+    fn open_to(&self, step: Move) -> bool
+        ensures whether_the_move_is_open { result ≡ open_to self.now.layout.now self.now.roster.now step.from step.to }
     {
-        let linked = self.layout.points(a, b).is_some();
-        ((a == b) | linked) & !self.roster.is_closed(b)
+        (!step.runs() || self.layout.points(step.from, step.to).is_some())
+            && !self.roster.is_closed(step.to)
     }
 
     // Whether every train stands at its goal.
@@ -41,7 +41,8 @@ impl<'a, S, R: Rule> Board<'a, S, R> {
         requires { j < 8 }
         ensures whether_the_move_is_open_and_meets_no_conflict { result ≡ may_move (task R.Rule.conflicts self.now) at to j x }
     {
-        self.open_to(at[j], x) && self.clear_of(&at[..j], &to[..j], Move::new(at[j], x))
+        let step = Move::new(at[j], x);
+        self.open_to(step) && self.clear_of(&at[..j], &to[..j], step)
     }
 }
 
@@ -52,6 +53,6 @@ impl<'a, S: Scale, R> Board<'a, S, R> {
         requires few { self.now.trains ≤ 8 }
         ensures the_price_of_the_move { result ≡ move_price (S.Scale.measure self.now.scale.now) (task (λ _ _ _ _ _ _. true) self.now) at j x }
     {
-        move_price(self.scale, self.layout, at[j], x, self.goal[j])
+        move_price(self.scale, self.layout, Move::new(at[j], x), self.goal[j])
     }
 }

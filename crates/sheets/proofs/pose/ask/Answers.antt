@@ -26,16 +26,16 @@ returns-then-steps-eq0 c =
     let s : (eqb c.args.steps 0 || ltb 16 c.args.steps) ≡ true = (let h = c.then-steps-eq0.either in grind (arith, nat_tests)) in
     record { the_first_condition_met_declines = simp (a, b, s); the_question_is_as_asked = tt }
 
-pub returns-then-members-eq0 : goal.returns-then-members-eq0
+pub returns-then-how_many_marked-eq0 : goal.returns-then-how_many_marked-eq0
 unfolding question_declined
-returns-then-members-eq0 c =
+returns-then-how_many_marked-eq0 c =
     let a : all_on c.args.layout.now c.args.roster.now ≡ true = sym c.if-not-all_on.ensures.whether_all_starts_and_goals_are_on_the_layout in
     let b : all_rows c.args.roster.now c.args.group ≡ true = sym c.if-not-all_rows.ensures.whether_all_marks_are_rows in
     let s : (eqb c.args.steps 0 || ltb 16 c.args.steps) ≡ false = grind (arith, nat_tests) in
     let m : eqb (count (rows_of c.args.roster.now) (marked c.args.group)) 0 ≡ true = grind (arith, nat_tests) in
     record { the_first_condition_met_declines = simp (a, b, s, m); the_question_is_as_asked = tt }
 
-none : (c : goal.Else-members-eq0) → is_some (question_declined c.args.layout.now c.args.roster.now c.args.group c.args.steps) ≡ false
+none : (c : goal.Else-how_many_marked-eq0) → is_some (question_declined c.args.layout.now c.args.roster.now c.args.group c.args.steps) ≡ false
 unfolding question_declined
 none c =
     let a : all_on c.args.layout.now c.args.roster.now ≡ true = sym c.if-not-all_on.ensures.whether_all_starts_and_goals_are_on_the_layout in

@@ -22,7 +22,7 @@ loop-to-preserved g c =
     let turn : 1 + i ≡ i + 1 = omega arith in
     let read : get_or (take ((q.steps + 1) - 1) (drop 1 x)) i 0 ≡ get_or x (i + 1) 0 = get_or-take _ (drop 1 x) i 0 (omega arith) ∙ get_or-drop 1 x i 0 ∙ ap (λ (j : ℕ). get_or x j 0) turn in
     let priced = c.move_price.ensures.the_price_of_its_points_and_of_standing_at_the_goal
-    ∙ ap₂ (λ a b. S.price (over l a b) (eqb a c.args.goal && eqb b c.args.goal)) c.loop-to.invariant.stands read in
+    ∙ ap₂ (λ a b. S.price (over l a b) (eqb a c.args.goal && eqb b c.args.goal)) (c.new.ensures.it_begins_there ∙ c.loop-to.invariant.stands) (c.new.ensures.it_ends_there ∙ read) in
     record { stands = read; joined_so_far = c.join-total.ensures.both_costs_together ∙ ap₂ S.join c.loop-to.invariant.joined_so_far priced ∙ sym (joined_more S i _) }
 
 pub returns : goal.returns

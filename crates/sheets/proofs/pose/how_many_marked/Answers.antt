@@ -3,7 +3,7 @@ use Rattle.std.specs.List.{count_by}
 use Rattle.sheets.specs.Problem.{count}
 use Rattle.sheets.specs.Posing.{marked}
 use Rattle.sheets.proofs.Tables.{front_count}
-use Rattle.sheets.proofs.pose.members.Goals as goal
+use Rattle.sheets.proofs.pose.how_many_marked.Goals as goal
 
 pub returns : goal.returns
 returns c =
