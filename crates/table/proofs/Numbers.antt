@@ -51,9 +51,10 @@ module _ (n : ℕ) (at : List ℕ) where
       let b = power_size n (suc i) nn s in
       omega arith
 
-  pub code_more : (i : ℕ) → code_of n i at * n + get_or at i 0 ≡ code_of n (i + 1) at
+  -- one digit more
+  pub code_more : (i : ℕ) {base code digit : ℕ} → base ≡ n → code ≡ code_of n i at → digit ≡ get_or at i 0 → code * base + digit ≡ code_of n (i + 1) at
   unfolding code_of
-  code_more i = rw add-one
+  code_more i b c d = rw (b, c, d, add-one)
 
   -- a joint position has the digits of its number
   pub code_digits : (k : ℕ) → k ≤ length at → ((i : ℕ) → i < k → get_or at i 0 < n) → digits n k (code_of n k at) ≡ take k at

@@ -2,8 +2,7 @@ ghost use Rattle.std.specs.Prelude.{◌≡◌, ◌+◌, ◌*◌, ◌^◌, ◌≤
 ghost use Rattle.track.specs.Layouts.{sections_of};
 ghost use Rattle.search.specs.Answers.{Answered};
 ghost use Rattle.sheets.specs.Inquiry.{inquired, trains};
-ghost use Rattle.words.specs.Rests.{On};
-ghost use Rattle.words.specs.Tasks.{task, Solution};
+ghost use Rattle.words.specs.Tasks.{SolutionFor};
 ghost use Rattle.table.specs.Columns.{Enough, KeptFrom};
 ghost use Rattle.table.specs.OneTrain.{one_train_lem};
 
@@ -19,19 +18,16 @@ use search::answer::{Answer, Unplanned};
 use search::search::Search;
 use sheets::asked::Asked;
 use sheets::sheet::Sheet;
-use words::choose::choose;
 use words::found::Found;
 use words::group::Group;
-use words::written::answer;
 
 // The first of the least of the group's sheets, by a worksheet with a cell for each time and each joint position.
 fn best_of<S: Scale, R: Rule>(
     positions: &Positions<S, R>,
     cells: &mut [Option<S::Cost>],
 ) -> Option<Found<S::Cost>>
-    requires starts { On (task R.Rule.conflicts positions.now.group.now.board) positions.now.group.now.board.trains positions.now.group.now.start }
     requires room { positions.now.count * (positions.now.group.now.steps + 1) ≤ length cells.old }
-    ensures the_least_cost_and_the_first_sheet_that_has_it { Solution (S.Scale.measure positions.now.group.now.board.scale.now) (task R.Rule.conflicts positions.now.group.now.board) positions.now.group.now.steps positions.now.group.now.start result }
+    ensures the_least_cost_and_the_first_sheet_that_has_it { SolutionFor R.Rule.conflicts S.Scale.measure positions.now.group.now result }
 {
     fill(positions, cells);
     read_off(&Ahead {
@@ -50,15 +46,14 @@ pub fn plan<S: Scale, R: Rule>(
     ensures the_answer_is_right { Answered (inquired R.Rule.conflicts S.Scale.measure asked.now) (Enough (inquired R.Rule.conflicts S.Scale.measure asked.now) (length cells.old)) sheet.old sheet.new result }
     ensures the_cells_beyond_its_own_are_left_alone { KeptFrom (sections_of asked.now.question.now.layout.now ^ trains (inquired R.Rule.conflicts S.Scale.measure asked.now) * (asked.now.question.now.steps + 1)) cells.old cells.new }
 {
-    let chosen = choose(asked.question);
-    let group = Group::of(asked, &chosen);
+    let group = Group::of(asked);
     let positions = Positions::of(&group);
     let used = positions.count * (group.steps + 1);
     if used > cells.len() {
         return Err(Unplanned::BeyondReach);
     }
     let found = best_of(&positions, &mut cells[..used]);
-    answer(asked, &chosen, found, sheet)
+    group.answer(found, sheet)
 }
 
 impl<S: Scale> Search<S> for Table {

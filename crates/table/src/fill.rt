@@ -10,6 +10,9 @@ use rules::rule::Rule;
 use scales::scale::Scale;
 use words::turn::Turn;
 
+// The loops of the next two stay apart: one function for both would take a closure, and its contract would have to say of every position
+// what the closure gives there, which is longer than a loop of two lines.
+
 // The column of no steps left: nothing is left to pay at the goals, and there is no way elsewhere.
 fn fill_last<S: Scale, R: Rule>(positions: &Positions<S, R>, column: &mut [Option<S::Cost>])
     requires a_cell_each { length column.old ≡ positions.now.count }

@@ -10,8 +10,6 @@ pub mod codes;
 #[derive(Drop)]
 pub(crate) struct Positions<'a, S, R> {
     pub(crate) group: &'a Group<'a, S, R>,
-    pub(crate) sections: u8,
     pub(crate) count: usize,
-    ghost of_the_layout: { sections ≡ sections_of group.now.board.layout.now },
     ghost all: { count ≡ sections_of group.now.board.layout.now ^ group.now.board.trains },
 }

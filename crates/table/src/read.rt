@@ -1,8 +1,5 @@
-ghost use Rattle.std.specs.Prelude.{◌≡◌, ◌+◌, ◌*◌, ◌<◌, ◌≤◌, take};
-ghost use Rattle.words.specs.Joint.{process};
-ghost use Rattle.words.specs.Rests.{On};
-ghost use Rattle.words.specs.Tasks.{task, begin, Solution};
-ghost use Rattle.words.specs.Words.{best};
+ghost use Rattle.std.specs.Prelude.{◌≡◌, ◌*◌, ◌≤◌, take};
+ghost use Rattle.words.specs.Tasks.{task, best_from, SolutionFor};
 ghost use Rattle.table.specs.Steps.{Can};
 
 use crate::ahead::Ahead;
@@ -14,10 +11,9 @@ use words::rests::Rests;
 
 // The best word from the start on, if there is a way to go.
 fn plan_of<S: Scale, R: Rule, N: Rests<S::Cost>>(ahead: &Ahead<S, R, N>) -> [u8; 128]
-    requires starts { On (task R.Rule.conflicts ahead.now.group.now.board) ahead.now.group.now.board.trains ahead.now.group.now.start }
     requires all_are_known { ahead.now.group.now.steps ≤ ahead.now.most }
     requires can { Can (S.Scale.measure ahead.now.group.now.board.scale.now) (task R.Rule.conflicts ahead.now.group.now.board) ahead.now.group.now.steps ahead.now.group.now.start }
-    ensures the_best_word { take (ahead.now.group.now.board.trains * ahead.now.group.now.steps) result ≡ best (S.Scale.measure ahead.now.group.now.board.scale.now) (process (S.Scale.measure ahead.now.group.now.board.scale.now) (task R.Rule.conflicts ahead.now.group.now.board)) (ahead.now.group.now.board.trains * ahead.now.group.now.steps) (begin (task R.Rule.conflicts ahead.now.group.now.board) ahead.now.group.now.start) }
+    ensures the_best_word { take (ahead.now.group.now.board.trains * ahead.now.group.now.steps) result ≡ best_from (S.Scale.measure ahead.now.group.now.board.scale.now) (task R.Rule.conflicts ahead.now.group.now.board) ahead.now.group.now.steps ahead.now.group.now.start }
 {
     let mut plan = [0; 128];
     let mut at = ahead.group.start;
@@ -36,9 +32,8 @@ fn plan_of<S: Scale, R: Rule, N: Rests<S::Cost>>(ahead: &Ahead<S, R, N>) -> [u8;
 pub(crate) fn read_off<S: Scale, R: Rule, N: Rests<S::Cost>>(
     ahead: &Ahead<S, R, N>,
 ) -> Option<Found<S::Cost>>
-    requires starts { On (task R.Rule.conflicts ahead.now.group.now.board) ahead.now.group.now.board.trains ahead.now.group.now.start }
     requires all_are_known { ahead.now.group.now.steps ≤ ahead.now.most }
-    ensures the_least_cost_and_the_first_sheet_that_has_it { Solution (S.Scale.measure ahead.now.group.now.board.scale.now) (task R.Rule.conflicts ahead.now.group.now.board) ahead.now.group.now.steps ahead.now.group.now.start result }
+    ensures the_least_cost_and_the_first_sheet_that_has_it { SolutionFor R.Rule.conflicts S.Scale.measure ahead.now.group.now result }
 {
     let group = ahead.group;
     let cost = ahead.rest(group.steps, group.start)?;

@@ -1,9 +1,7 @@
 ghost use Rattle.std.specs.Prelude.{◌≡◌, ◌+◌, ◌<◌, ◌≤◌};
-ghost use Rattle.words.specs.Joint.{process};
 ghost use Rattle.words.specs.Rests.{On};
 ghost use Rattle.words.specs.Tasks.{task};
-ghost use Rattle.words.specs.Words.{rest};
-ghost use Rattle.words.specs.Turns.{todo, joint, move_cost};
+ghost use Rattle.words.specs.Turns.{move_cost, rest_of};
 ghost use Rattle.table.specs.Steps.{Ready, Picked, Can, Stepped};
 
 use crate::ahead::Ahead;
@@ -15,6 +13,10 @@ use scales::scale::Scale;
 use words::rests::Rests;
 use words::turn::Turn;
 
+// `Ready` is asked of each turn, and is no invariant: each call moves the turn on, so a struct of a turn and what is known of it would be
+// made anew in each, and its invariant be proved there as the `requires` is. The measure and the task of the group stand in each clause,
+// since a word for both would only name them, and each definition takes them apart.
+
 // The least cost of the rest of a step from here on, and of all that is still to come.
 #[cycle(step)]
 pub(crate) fn least_rest<S: Scale, R: Rule, N: Rests<S::Cost>>(
@@ -22,7 +24,7 @@ pub(crate) fn least_rest<S: Scale, R: Rule, N: Rests<S::Cost>>(
     turn: Turn,
 ) -> Option<S::Cost>
     requires ready { Ready (task R.Rule.conflicts ahead.now.group.now.board) ahead.now.most turn }
-    ensures the_least_cost_of_the_rest { result ≡ rest (S.Scale.measure ahead.now.group.now.board.scale.now) (process (S.Scale.measure ahead.now.group.now.board.scale.now) (task R.Rule.conflicts ahead.now.group.now.board)) (todo (task R.Rule.conflicts ahead.now.group.now.board) turn.left turn.moved) (joint (task R.Rule.conflicts ahead.now.group.now.board) turn) }
+    ensures the_least_cost_of_the_rest { result ≡ rest_of (S.Scale.measure ahead.now.group.now.board.scale.now) (task R.Rule.conflicts ahead.now.group.now.board) turn }
 {
     if turn.moved == ahead.group.board.trains {
         return ahead.rest(turn.left, turn.to);

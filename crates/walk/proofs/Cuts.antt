@@ -3,7 +3,7 @@ use Rattle.std.proofs.Common.{◌≡◌, ℕ, ◌+◌, ◌≤◌, Bool, true, fa
 use Rattle.std.proofs.lemmas.Bool.{cases_Bool, both_ways, not-true}
 use Rattle.scales.specs.Measure.{Measure, MeasureLaws}
 use Rattle.words.specs.Words.{under, with}
-use Rattle.words.proofs.Least.{some≢none, NoHigher, no_higher, lower_no_higher, no_higher_trans}
+use Rattle.words.proofs.Least.{some≢none, NoHigher, no_higher, lower_no_higher, no_higher_trans, join_right, join_right_no_higher}
 use Rattle.std.specs.Option.{option_or}
 use Rattle.walk.specs.Walks.{cut, spent_up}
 
@@ -107,24 +107,14 @@ module _ {C : Type 0} (S : Measure C) (L : MeasureLaws S) where
   with_cond s true n a = refl
   with_cond s false n a = refl
 
-  join_right : (a b c : C) → S.size a + S.size b ≤ 65535 → S.size a + S.size c ≤ 65535 → S.lower b c ≡ true
-      → S.lower (S.join a b) (S.join a c) ≡ true
-  join_right a b c ab ac h =
-      rw (L.join_comm a b ab, L.join_comm a c ac) (L.join_lower b c a (omega arith) (omega arith) h)
-
-  join_right_no_higher : (a b c : C) → S.size a + S.size b ≤ 65535 → S.size a + S.size c ≤ 65535 → NoHigher S L b c
-      → NoHigher S L (S.join a b) (S.join a c)
-  join_right_no_higher a b c ab ac (inl e) = inl (ap (S.join a) e)
-  join_right_no_higher a b c ab ac (inr h) = inr (join_right a b c ab ac h)
-
   pub under_with : (s : C) (z : ℕ) (a n : Option C) → S.size s + z ≤ 65535 → Sized S z a → Sized S z n → under S (with S s a) (with S s n) ≡ under S a n
   under_with s z None None h x y = refl
   under_with s z None (Some n) h x y = refl
   under_with s z (Some a) None h x y = refl
   under_with s z (Some a) (Some n) h x y =
       ⊎_elim
-      (λ e. join_right s n a (omega arith) (omega arith) e ∙ sym e)
-      (λ e. not_lower (S.join s n) (S.join s a) (join_right_no_higher s a n (omega arith) (omega arith) (no_higher S L a n e)) ∙ sym e)
+      (λ e. join_right S L s n a (omega arith) (omega arith) e ∙ sym e)
+      (λ e. not_lower (S.join s n) (S.join s a) (join_right_no_higher S L s a n (omega arith) (omega arith) (no_higher S L a n e)) ∙ sym e)
       (cases_Bool (S.lower n a))
 
   pub with_assoc : (s p : C) (z : ℕ) (o : Option C) → S.size s + S.size p + z ≤ 65535 → Sized S z o → with S (S.join s p) o ≡ with S s (with S p o)
@@ -137,7 +127,7 @@ module _ {C : Type 0} (S : Measure C) (L : MeasureLaws S) where
   spent_none None s z o h x n e = absurd (true≢false (sym e))
   spent_none (Some b) s z None h x n e = refl
   spent_none (Some b) s z (Some d) h x n e =
-      let up : NoHigher S L (S.join s S.nothing) (S.join s d) = join_right_no_higher s S.nothing d (omega (arith, L.size_nothing)) (omega arith) (n d refl) in
+      let up : NoHigher S L (S.join s S.nothing) (S.join s d) = join_right_no_higher S L s S.nothing d (omega (arith, L.size_nothing)) (omega arith) (n d refl) in
       let up' : NoHigher S L s (S.join s d) = subst (λ v. NoHigher S L v (S.join s d)) (L.join_nothing s (omega arith)) up in
       let f : S.lower (S.join s d) b ≡ false = not_lower (S.join s d) b (no_higher_trans S L b s (S.join s d) (no_higher S L b s (not-true _ e)) up') in
       simp f
@@ -145,7 +135,7 @@ module _ {C : Type 0} (S : Measure C) (L : MeasureLaws S) where
   pub nothing_over : (p d : C) → S.size p + S.size d ≤ 65535 → NoHigher S L S.nothing p → NoHigher S L S.nothing d → NoHigher S L S.nothing (S.join p d)
   nothing_over p d h np nd =
       let e : S.join p S.nothing ≡ p = L.join_nothing p (omega arith) in
-      let up : NoHigher S L p (S.join p d) = subst (λ v. NoHigher S L v (S.join p d)) e (join_right_no_higher p S.nothing d (omega (arith, L.size_nothing)) (omega arith) nd) in
+      let up : NoHigher S L p (S.join p d) = subst (λ v. NoHigher S L v (S.join p d)) e (join_right_no_higher S L p S.nothing d (omega (arith, L.size_nothing)) (omega arith) nd) in
       no_higher_trans S L S.nothing p (S.join p d) np up
 
   pub price_over : (n : ℕ) (b : Bool) → NoHigher S L S.nothing (S.price n b)

@@ -1,10 +1,10 @@
 -- What a walk from a place on answers.
 use Rattle.std.specs.Prelude.{◌≡◌, ℕ, ◌+◌, ◌*◌, ◌<◌, ◌≤◌, Bool, false, cond, not, length, take, drop, Some, None, Option, slice_set}
 use Rattle.scales.specs.Measure.{Measure}
-use Rattle.words.specs.Words.{rest, best, under, with}
+use Rattle.words.specs.Words.{best, under, with}
 use Rattle.words.specs.Joint.{Task, process}
 use Rattle.words.specs.Tasks.{cost_of, Goes}
-use Rattle.words.specs.Turns.{todo, joint}
+use Rattle.words.specs.Turns.{todo, joint, rest_of}
 use Rattle.words.specs.declared.found.Found.{Found}
 use Rattle.walk.specs.declared.spot.Spot.{Spot}
 
@@ -29,7 +29,7 @@ pub record Ready {C : Type 0} (S : Measure C) (K : Task) (s : Spot C) : Type 0 w
 
 -- of the words from here on the best, if with what is spent it costs less than the bound; it is written from the spot's place on
 pub record Walked {C : Type 0} (S : Measure C) (K : Task) (s : Spot C) (bound : Option C) (r : Option (Found C)) : Type 0 where
-  pub cost : cost_of r ≡ cut S bound (with S s.sofar (rest S (process S K) (todo K s.turn.left s.turn.moved) (joint K s.turn)))
+  pub cost : cost_of r ≡ cut S bound (with S s.sofar (rest_of S K s.turn))
   pub goes : Goes r (λ plan. take (todo K s.turn.left s.turn.moved) (drop s.place plan) ≡ best S (process S K) (todo K s.turn.left s.turn.moved) (joint K s.turn))
   pub long : Goes r (λ plan. length plan ≡ 128)
 

@@ -10,9 +10,7 @@ use search::answer::{Answer, Unplanned};
 use search::search::Search;
 use sheets::asked::Asked;
 use sheets::sheet::Sheet;
-use words::choose::choose;
 use words::group::Group;
-use words::written::answer;
 
 impl<S: Scale> Search<S> for Walk {
     // it takes the groups up to its greatest, and uses no cell
@@ -26,11 +24,10 @@ impl<S: Scale> Search<S> for Walk {
         _cells: &mut [Option<S::Cost>],
         sheet: &mut Sheet,
     ) -> Answer<S::Cost> {
-        let chosen = choose(asked.question);
-        if chosen.trains > self.most {
+        let group = Group::of(asked);
+        if group.board.trains > self.most {
             return Err(Unplanned::BeyondReach);
         }
-        let group = Group::of(asked, &chosen);
-        answer(asked, &chosen, best_of(&group), sheet)
+        group.answer(best_of(&group), sheet)
     }
 }

@@ -1,6 +1,6 @@
 ghost use Rattle.std.specs.Prelude.{◌≡◌, ◌<◌};
-ghost use Rattle.words.specs.Tasks.{task, Solution};
-ghost use Rattle.walk.specs.Walks.{Ready, Walked, put_at};
+ghost use Rattle.words.specs.Tasks.{task, SolutionFor};
+ghost use Rattle.walk.specs.Walks.{Ready, Walked};
 
 use crate::spot::Spot;
 use rules::rule::Rule;
@@ -8,18 +8,6 @@ use scales::scale::Scale;
 use words::found::Found;
 use words::group::Group;
 use words::turn::Turn;
-
-// The section x written into the plan that was found.
-fn put<C: Copy>(found: Option<Found<C>>, place: usize, x: u8) -> Option<Found<C>>
-    requires { place < 128 }
-    ensures the_section_is_written { result ≡ put_at place x found }
-{
-    found.map(|f| {
-        let mut plan = f.plan;
-        plan[place] = x;
-        Found { plan, ..f }
-    })
-}
 
 // Of the sheets that go on from here, the first of the least, if with what is spent so far it costs less than the bound.
 fn explore<S: Scale, R: Rule>(
@@ -37,11 +25,10 @@ fn explore<S: Scale, R: Rule>(
         if spot.turn.left > 0 {
             return explore(group, spot.next_step(), bound);
         }
-        let end = Found {
+        return group.board.all_home(spot.turn.to).then(|| Found {
             cost: spot.sofar,
             plan: [0; 128],
-        };
-        return group.board.all_home(spot.turn.to).then_some(end);
+        });
     }
     let mut best: Option<Found<S::Cost>> = None;
     for x in 0..group.board.layout.sections() {
@@ -51,9 +38,12 @@ fn explore<S: Scale, R: Rule>(
         {
             let price = group.board.move_price(spot.turn.at, spot.turn.moved, x);
             let next = spot.after(x, group.board.scale.join(spot.sofar, price));
-            let nearer = best.map(|f| f.cost).or(bound);
-            let found = explore(group, next, nearer);
-            best = put(found, spot.place, x).or(best);
+            let nearer = best.as_ref().map(|f| f.cost).or(bound);
+            // the section is written in place, since a plan is long to copy at every turn
+            if let Some(mut found) = explore(group, next, nearer) {
+                found.plan[spot.place] = x;
+                best = Some(found);
+            }
         }
     }
     best
@@ -61,7 +51,7 @@ fn explore<S: Scale, R: Rule>(
 
 // The first of the least of the group's sheets.
 pub(crate) fn best_of<S: Scale, R: Rule>(group: &Group<S, R>) -> Option<Found<S::Cost>>
-    ensures the_least_cost_and_the_first_word_of_it { Solution (S.Scale.measure group.now.board.scale.now) (task R.Rule.conflicts group.now.board) group.now.steps group.now.start result }
+    ensures the_least_cost_and_the_first_word_of_it { SolutionFor R.Rule.conflicts S.Scale.measure group.now result }
 {
     let first = Spot {
         turn: Turn::begin(group.steps - 1, group.start),

@@ -1,9 +1,9 @@
 -- The best word: each choice is the first of the least, and what follows is best from there.
-use Rattle.std.proofs.Common.{◌≡◌, ℕ, zero, suc, ◌+◌, ◌*◌, ◌<◌, ◌≤◌, Bool, true, false, cond, List, [], ◌∷◌, Some, None, Option, sym, refl, ap, ◌∙◌, subst, inl, inr, ⊎_elim, arith}
+use Rattle.std.proofs.Common.{◌≡◌, ℕ, zero, suc, ◌*◌, ◌<◌, ◌≤◌, Bool, true, false, cond, List, [], ◌∷◌, Some, None, Option, sym, refl, ap, ◌∙◌, subst, inl, inr, ⊎_elim, arith}
 use Rattle.std.proofs.lemmas.Bool.{cases_order}
 use Rattle.scales.specs.Measure.{Measure, MeasureLaws}
 use Rattle.words.specs.Words.{Process, Run, spent, Beats, BestWord, Answers, FirstOf, Firstly, least, first, with, rest, best, choice}
-use Rattle.words.proofs.Least.{some≢none, some_same, NoHigher, lower_no_higher, no_higher_trans, firstly}
+use Rattle.words.proofs.Least.{some≢none, some_same, NoHigher, lower_no_higher, no_higher_trans, join_right, join_right_no_higher, firstly}
 
 -- what a choice that can be made is
 pub choice_some : {C : Type 0} (S : Measure C) (b : Bool) (a : C) (o : Option C) (c : C) → cond b (with S a o) None ≡ Some c
@@ -26,16 +26,6 @@ module _ {St C : Type 0} (S : Measure C) (L : MeasureLaws S) (G : Process St C) 
       let p = P s x in
       omega (arith, L.size_join (G.price s x) (spent S G (G.after s x) w) (omega arith))
 
-  join_right : (a b c : C) → S.size a + S.size b ≤ 65535 → S.size a + S.size c ≤ 65535 → S.lower b c ≡ true
-      → S.lower (S.join a b) (S.join a c) ≡ true
-  join_right a b c ab ac h =
-      rw (L.join_comm a b ab, L.join_comm a c ac) (L.join_lower b c a (omega arith) (omega arith) h)
-
-  join_right_no_higher : (a b c : C) → S.size a + S.size b ≤ 65535 → S.size a + S.size c ≤ 65535 → NoHigher S L b c
-      → NoHigher S L (S.join a b) (S.join a c)
-  join_right_no_higher a b c ab ac (inl e) = inl (ap (S.join a) e)
-  join_right_no_higher a b c ab ac (inr h) = inr (join_right a b c ab ac h)
-
   beats_no_higher : (s : St) (w v : List ℕ) → Beats S G s w v → NoHigher S L (spent S G s w) (spent S G s v)
   beats_no_higher s w v (inl e) = inl (ap (spent S G s) e)
   beats_no_higher s w v (inr (inl h)) = inr h
@@ -49,7 +39,7 @@ module _ {St C : Type 0} (S : Measure C) (L : MeasureLaws S) (G : Process St C) 
       let sw = spent_size m (G.after s x) w (omega arith) rw' in
       let sv = spent_size m (G.after s x) v (omega arith) rv in
       let p = P s x in
-      inr (inl (join_right (G.price s x) _ _ (omega arith) (omega arith) l))
+      inr (inl (join_right S L (G.price s x) _ _ (omega arith) (omega arith) l))
   beats_cons m s x w v h rw' rv (inr (inr (e, a))) = inr (inr (ap (S.join (G.price s x)) e, inr (refl, a)))
 
   module _ (m : ℕ) (s : St) (h : 16 * suc m ≤ 65535) (ih : (u : St) → Answers S G m u (rest S G m u)) where
@@ -83,7 +73,7 @@ module _ {St C : Type 0} (S : Measure C) (L : MeasureLaws S) (G : Process St C) 
             let p = P s y in
             let tail : NoHigher S L there.0 (spent S G (G.after s y) v) = rw by.costs at (beats_no_higher _ _ _ (by.beats v r.2)) in
             let se' : S.size there.0 ≤ 16 * m = rw by.costs at se in
-            let up = join_right_no_higher (G.price s y) there.0 (spent S G (G.after s y) v) (omega arith) (omega arith) tail in
+            let up = join_right_no_higher S L (G.price s y) there.0 (spent S G (G.after s y) v) (omega arith) (omega arith) tail in
             ⊎_elim
             (λ e. subst (λ z. Beats S G s (x ∷ best S G m (G.after s x)) (z ∷ v)) e
             (let rv : Run G m (G.after s x) v = rw e r.2 in

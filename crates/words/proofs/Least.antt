@@ -1,5 +1,5 @@
 -- The first of the least.
-use Rattle.std.proofs.Common.{◌≡◌, ℕ, zero, suc, ◌<◌, Bool, true, false, cond, ◌⊎◌, Some, None, Option, sym, refl, ◌∙◌, subst, inl, inr, ⊎_elim, arith}
+use Rattle.std.proofs.Common.{◌≡◌, ℕ, zero, suc, ◌+◌, ◌<◌, ◌≤◌, Bool, true, false, cond, ◌⊎◌, Some, None, Option, sym, refl, ap, ◌∙◌, subst, inl, inr, ⊎_elim, arith}
 use Rattle.std.proofs.lemmas.Bool.{cases_lt, both_ways}
 use Rattle.scales.specs.Measure.{Measure, MeasureLaws}
 use Rattle.words.specs.Words.{FirstOf, Firstly, least, first, under}
@@ -29,6 +29,16 @@ module _ {C : Type 0} (S : Measure C) (L : MeasureLaws S) where
   pub no_higher_trans : (a b c : C) → NoHigher a b → NoHigher b c → NoHigher a c
   no_higher_trans a b c (inl e) k = rw e k
   no_higher_trans a b c (inr h) k = inr (lower_no_higher a b c h k)
+
+  pub join_right : (a b c : C) → S.size a + S.size b ≤ 65535 → S.size a + S.size c ≤ 65535 → S.lower b c ≡ true
+      → S.lower (S.join a b) (S.join a c) ≡ true
+  join_right a b c ab ac h =
+      rw (L.join_comm a b ab, L.join_comm a c ac) (L.join_lower b c a (omega arith) (omega arith) h)
+
+  pub join_right_no_higher : (a b c : C) → S.size a + S.size b ≤ 65535 → S.size a + S.size c ≤ 65535 → NoHigher b c
+      → NoHigher (S.join a b) (S.join a c)
+  join_right_no_higher a b c ab ac (inl e) = inl (ap (S.join a) e)
+  join_right_no_higher a b c ab ac (inr h) = inr (join_right a b c ab ac h)
 
   module _ (n : ℕ) (f : ℕ → Option C) where
     keep : (a : C) (x : ℕ) → FirstOf S n f a x → ((d : C) → f n ≡ Some d → NoHigher a d) → FirstOf S (suc n) f a x

@@ -50,6 +50,10 @@ module _ (conflicts : Layout → Conflicts) (q : Question) (c : Chosen) (H : Cho
   pub trains_most : c.trains ≤ 8
   trains_most = omega (arith, H.few, rows_most q.roster.now)
 
+  -- the trains start on the layout
+  pub starts_on : (i : ℕ) → i < c.trains → get_or c.start i 0 < sections_of q.layout.now
+  starts_on i h = rw (H.starts i h) ((posed_of (conflicts q.layout.now) q).start_inside (row_of c i) (H.below i h))
+
   pub rows : Rows c
   rows = record {
     few = trains_most;

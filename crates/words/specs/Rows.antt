@@ -14,6 +14,10 @@ added c r s g = record { trains = c.trains + 1; row = slice_set c.row c.trains r
 abbrev pub row_of : Chosen → ℕ → ℕ
 row_of c i = slice_index c.row i
 
+-- so many rows, with their starts and goals
+abbrev pub chosen_of : (trains : ℕ) → (row start goal : List ℕ) → Chosen
+chosen_of k row start goal = record { trains = k; row = row; start = start; goal = goal }
+
 abbrev pub group_of : Question → Group
 group_of q = marked q.group
 

@@ -4,14 +4,13 @@ use Rattle.track.specs.Layouts.{sections_of, look}
 use Rattle.track.specs.declared.layout.Layout.{Layout}
 use Rattle.roster.specs.Model.{closed_of}
 use Rattle.roster.specs.declared.roster.Roster.{Roster}
-use Rattle.sheets.specs.Inquiry.{over}
+use Rattle.sheets.specs.Inquiry.{Inquiry, over, inquiry}
 use Rattle.rules.specs.Conflicts.{Conflicts}
 use Rattle.scales.specs.Measure.{Measure}
 use Rattle.words.specs.Words.{rest, best}
 use Rattle.words.specs.Joint.{Task, Joint, process}
 use Rattle.sheets.specs.declared.asked.Asked.{Asked}
 use Rattle.words.specs.declared.board.Board.{Board}
-use Rattle.words.specs.declared.chosen.Chosen.{Chosen}
 use Rattle.words.specs.declared.group.Group.{Group}
 use Rattle.words.specs.declared.found.Found.{Found}
 
@@ -27,16 +26,15 @@ task_of conflicts l o k goal = record { sections = sections_of l; trains = k; op
 abbrev pub task : {S R : Type 0} → (R → Layout → Conflicts) → Board S R → Task
 task conflicts b = task_of (conflicts b.rule.now b.layout.now) b.layout.now b.roster.now b.trains b.goal
 
--- the group has what is asked of the rows that are chosen
-pub record GroupOf {S R : Type 0} (a : Asked R S) (c : Chosen) (g : Group S R) : Type 0 where
+-- the group has what is asked: the rest follows, since a group's board is the one of its question
+pub record GroupOf {S R : Type 0} (a : Asked R S) (g : Group S R) : Type 0 where
   pub scale : g.board.scale.now ≡ a.scale.now
   pub rule : g.board.rule.now ≡ a.rule.now
-  pub layout : g.board.layout.now ≡ a.question.now.layout.now
-  pub roster : g.board.roster.now ≡ a.question.now.roster.now
-  pub trains : g.board.trains ≡ c.trains
-  pub start : g.start ≡ c.start
-  pub goal : g.board.goal ≡ c.goal
-  pub steps : g.steps ≡ a.question.now.steps
+  pub question : g.question.now ≡ a.question.now
+
+-- what is asked of a group, by what its rule and its scale mean
+abbrev pub asked_of : {S R C : Type 0} → (R → Layout → Conflicts) → (S → Measure C) → Group S R → Inquiry C
+asked_of conflicts measure g = inquiry (conflicts g.board.rule.now) (measure g.board.scale.now) g.question.now
 
 abbrev pub cost_of : {C : Type 0} → Option (Found C) → Option C
 cost_of None = None
@@ -51,14 +49,19 @@ Goes (Some f) P = P f.plan
 abbrev pub begin : Task → List ℕ → Joint
 begin K start = record { at = take K.trains start; to = [] }
 
+-- the least cost of so many steps from a joint position on, and the best word of them
+abbrev pub rest_from : {C : Type 0} → Measure C → Task → (steps : ℕ) → List ℕ → Option C
+rest_from S K steps at = rest S (process S K) (K.trains * steps) (begin K at)
+
+abbrev pub best_from : {C : Type 0} → Measure C → Task → (steps : ℕ) → List ℕ → List ℕ
+best_from S K steps at = best S (process S K) (K.trains * steps) (begin K at)
+
 -- the least cost of all the steps, and the first word that has it; or nothing, and there is no word
 pub record Solution {C : Type 0} (S : Measure C) (K : Task) (steps : ℕ) (start : List ℕ) (r : Option (Found C)) : Type 0 where
-  pub cost : cost_of r ≡ rest S (process S K) (K.trains * steps) (begin K start)
-  pub goes : Goes r (λ plan. take (K.trains * steps) plan ≡ best S (process S K) (K.trains * steps) (begin K start))
+  pub cost : cost_of r ≡ rest_from S K steps start
+  pub goes : Goes r (λ plan. take (K.trains * steps) plan ≡ best_from S K steps start)
   pub long : Goes r (λ plan. length plan ≡ 128)
 
--- what is found solves what is asked of the rows that are chosen
-abbrev pub FoundFor : {S R C : Type 0} → (R → Layout → Conflicts) → (S → Measure C) → Asked R S → Chosen → Option (Found C) → Type 0
-FoundFor conflicts measure a c r =
-    Solution (measure a.scale.now) (task_of (conflicts a.rule.now a.question.now.layout.now) a.question.now.layout.now a.question.now.roster.now c.trains c.goal)
-    a.question.now.steps c.start r
+-- what is found solves the task of the group
+abbrev pub SolutionFor : {S R C : Type 0} → (R → Layout → Conflicts) → (S → Measure C) → Group S R → Option (Found C) → Type 0
+SolutionFor conflicts measure g r = Solution (measure g.board.scale.now) (task conflicts g.board) g.steps g.start r

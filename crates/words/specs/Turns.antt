@@ -1,7 +1,7 @@
 -- How the trains of a group move in a joint step, one after the other.
 use Rattle.std.specs.Prelude.{ℕ, ◌+◌, ◌-◌, ◌*◌, List, take, replicate, slice_set, Option}
 use Rattle.scales.specs.Measure.{Measure}
-use Rattle.words.specs.Words.{choice}
+use Rattle.words.specs.Words.{rest, choice}
 use Rattle.words.specs.Joint.{Task, Joint, turned, process}
 use Rattle.words.specs.declared.turn.Turn.{Turn}
 
@@ -20,6 +20,10 @@ todo K left j = (K.trains - j) + K.trains * left
 -- where the trains of the task stood, and where those have gone that moved
 abbrev pub joint : Task → Turn → Joint
 joint K t = turned K.trains (take K.trains t.at) (take t.moved t.to)
+
+-- the least cost of what is to come
+abbrev pub rest_of : {C : Type 0} → Measure C → Task → Turn → Option C
+rest_of S K t = rest S (process S K) (todo K t.left t.moved) (joint K t)
 
 -- what the move of the next train to a section costs, with all that is still to come
 abbrev pub move_cost : {C : Type 0} → Measure C → Task → Turn → ℕ → Option C

@@ -1,17 +1,8 @@
 ghost use Rattle.std.specs.Prelude.{◌≡◌, ◌+◌, ◌<◌, ◌≤◌, ◌++◌, take, drop, map};
 ghost use Rattle.std.specs.List.{range_with_len};
-ghost use Rattle.roster.specs.Model.{rows_of};
-ghost use Rattle.sheets.specs.Inquiry.{inquired};
-ghost use Rattle.search.specs.Answers.{Answered};
-ghost use Rattle.words.specs.Rows.{ChosenTo, Rows, Written, planned};
-ghost use Rattle.words.specs.Tasks.{FoundFor};
+ghost use Rattle.words.specs.Rows.{Rows, Written, planned};
 
 use crate::chosen::Chosen;
-use crate::found::Found;
-use rules::rule::Rule;
-use scales::scale::Scale;
-use search::answer::{Answer, Unplanned};
-use sheets::asked::Asked;
 use sheets::sheet::Sheet;
 use std::array;
 
@@ -55,20 +46,4 @@ pub fn write(sheet: &mut Sheet, chosen: &Chosen, plan: &[u8; 128], steps: usize)
         let line = line_of(chosen.start[i], plan, chosen.trains, i);
         sheet.rows[row] = up_to(steps, line, sheet.rows[row]);
     }
-}
-
-// What a search answers of a group that it takes: the cost of the best sheet, which is written, or that there is none.
-pub fn answer<S: Scale, R: Rule>(
-    asked: &Asked<R, S>,
-    chosen: &Chosen,
-    found: Option<Found<S::Cost>>,
-    sheet: &mut Sheet,
-) -> Answer<S::Cost>
-    requires chosen { ChosenTo asked.now.question.now (rows_of asked.now.question.now.roster.now) chosen.now }
-    requires solved { FoundFor R.Rule.conflicts S.Scale.measure asked.now chosen.now found }
-    ensures the_answer_is_right { Answered (inquired R.Rule.conflicts S.Scale.measure asked.now) (Unit {0}) sheet.old sheet.new result }
-{
-    let found = found.ok_or(Unplanned::NoSheet)?;
-    write(sheet, chosen, &found.plan, asked.question.steps);
-    Ok(found.cost)
 }

@@ -8,13 +8,13 @@ use words::group::Group;
 impl<'a, S, R> Positions<'a, S, R> {
     // The joint positions of a group's trains.
     pub(crate) fn of(group: &'a Group<'a, S, R>) -> Positions<'a, S, R>
-        ensures of_the_board { result.group.now ≡ group.now }
+        ensures of_the_group { result.group.now ≡ group.now }
     {
-        let sections = group.board.layout.sections();
+        // the cast loses nothing: a group has at most 8 trains
+        let trains = group.board.trains as u32;
         Positions {
             group,
-            sections,
-            count: usize::from(sections).pow(group.board.trains as u32),
+            count: usize::from(group.board.layout.sections()).pow(trains),
         }
     }
 
@@ -23,12 +23,15 @@ impl<'a, S, R> Positions<'a, S, R> {
         requires { code < self.now.count }
         ensures the_digits_of_the_code { take self.now.group.now.board.trains result ≡ digits (sections_of self.now.group.now.board.layout.now) self.now.group.now.board.trains code }
     {
+        let group = self.group;
+        let sections = usize::from(group.board.layout.sections());
         let mut at = [0; 8];
         let mut left = code;
         // by the place: after a loop over `iter_mut().rev()` a proof knows no digit that it wrote
         for i in (0..self.group.board.trains).rev() {
-            at[i] = (left % usize::from(self.sections)) as u8;
-            left /= usize::from(self.sections);
+            // the cast loses nothing: a layout has at most 32 sections
+            at[i] = (left % sections) as u8;
+            left /= sections;
         }
         at
     }
@@ -39,9 +42,11 @@ impl<'a, S, R> Positions<'a, S, R> {
         ensures the_code_of_the_position { result ≡ code_of (sections_of self.now.group.now.board.layout.now) self.now.group.now.board.trains at }
         ensures one_of_them { result < self.now.count }
     {
+        let group = self.group;
+        let sections = usize::from(group.board.layout.sections());
         let mut code = 0;
         for section in &at[..self.group.board.trains] {
-            code = code * usize::from(self.sections) + usize::from(*section);
+            code = code * sections + usize::from(*section);
         }
         code
     }

@@ -1,4 +1,4 @@
-use Rattle.std.proofs.Common.{◌≡◌, ◌+◌, ◌<◌, ◌≤◌, length, replicate, true, false, sym, refl, ap, ◌∙◌, arith, rules}
+use Rattle.std.proofs.Common.{◌≡◌, ◌+◌, ◌<◌, ◌≤◌, length, replicate, true, false, Some, None, sym, refl, ap, ◌∙◌, arith, rules}
 use Rattle.std.specs.Bool.{then_some}
 use Rattle.std.specs.Option.{option_or}
 use Rattle.track.specs.Layouts.{sections_of}
@@ -6,7 +6,7 @@ use Rattle.words.specs.Tasks.{task, cost_of}
 use Rattle.walk.specs.Walks.{spent_up, Ready}
 use Rattle.walk.proofs.Scans.{scan_skip, scan_move, scan_all, ready_next, walked_up, walked_turn, walked_end}
 use Rattle.walk.proofs.explore.+explore.Goals as goal
-use Rattle.walk.proofs.explore.+explore.Goals.{then-may_move, else-may_move}
+use Rattle.walk.proofs.explore.+explore.Goals.{then-may_move+in-Some, then-may_move+in_default, else-may_move}
 
 pub returns-then-is_some_and : goal.returns-then-is_some_and
 returns-then-is_some_and g t c =
@@ -25,13 +25,14 @@ returns-then-spot-group g t c =
     let kt : c.args.group.now.board.trains ≤ length c.args.spot.turn.to = search rules in
     let z : c.args.spot.turn.left ≡ 0 = omega (arith, c.if-spot-gt0.false) in
     let e : spent_up (g.S.Scale.measure c.args.group.now.board.scale.now) c.args.bound c.args.spot.sofar ≡ false = search rules in
+    let made : c.then.result ≡ then_some c.all_home.result (record { cost = c.args.spot.sofar; plan = replicate 128 0 }) = search rules in
     record {
-      the_best_that_stays_below_the_bound = walked_end _ (g.met.S.Scale.lawful _) _ c.args.spot c.args.bound c.requires c.if-spot-group.true kt c.then_some.result (replicate 128 0) refl z e
-          (c.then_some.ensures ∙ ap (λ h. then_some h (record { cost = c.args.spot.sofar; plan = replicate 128 0 })) c.all_home.ensures.whether_every_train_is_at_its_goal);
+      the_best_that_stays_below_the_bound = walked_end _ (g.met.S.Scale.lawful _) _ c.args.spot c.args.bound c.requires c.if-spot-group.true kt c.then.result (replicate 128 0) refl z e
+          (made ∙ ap (λ h. then_some h (record { cost = c.args.spot.sofar; plan = replicate 128 0 })) c.all_home.ensures.whether_every_train_is_at_its_goal);
     }
 
-pub explore-found-requires : goal.explore-found-requires
-explore-found-requires g t c κs within =
+pub explore-requires-then-may_move : goal.explore-requires-then-may_move
+explore-requires-then-may_move g t c κs within =
     let jk : c.args.spot.turn.moved < c.args.group.now.board.trains = omega (arith, c.requires.in_group, c.if-spot-group.false) in
     let la : c.args.group.now.board.trains ≤ length c.args.spot.turn.at = search rules in
     let lt : c.args.group.now.board.trains ≤ length c.args.spot.turn.to = search rules in
@@ -49,15 +50,22 @@ loop-x-preserved g t c =
     let la : c.args.group.now.board.trains ≤ length c.args.spot.turn.at = search rules in
     let lt : c.args.group.now.board.trains ≤ length c.args.spot.turn.to = search rules in
     elim c.if-may_move.branch [
-      | then-may_move w ↦
+      | then-may_move+in-Some w ↦
           let e = w.join.ensures.both_costs_together ∙ ap ((g.S.Scale.measure c.args.group.now.board.scale.now).join c.args.spot.sofar) w.move_price-price.ensures.the_price_of_the_move in
           let n : w.or-nearer.result ≡ option_or (cost_of c.loop-x.best) c.args.bound = search rules in
           let m = sym c.may_move.ensures.whether_the_move_is_open_and_meets_no_conflict ∙ w.if-may_move.true in
           let k = w.after-next.ensures.the_next_train_has_gone_there in
-          let W = rw (k, e, n) at w.explore-found.ensures.the_best_that_stays_below_the_bound in
-          let b = w.best-is ∙ w.or-best.ensures in
-          let p = w.put.ensures.the_section_is_written in
-          rw (b, p) (scan_move _ (g.met.S.Scale.lawful _) _ c.args.spot c.args.bound c.requires jk la lt c.loop-x.x c.loop-x.best w.explore-found.result c.loop-x.invariant m W)
+          let W = rw (k, e, n) at w.explore-then-may_move.ensures.the_best_that_stays_below_the_bound in
+          let r : w.explore-then-may_move.result ≡ Some w.in-Some.found = search rules in
+          rw w.best-is (scan_move _ (g.met.S.Scale.lawful _) _ c.args.spot c.args.bound c.requires jk la lt c.loop-x.x c.loop-x.best (Some w.in-Some.found) c.loop-x.invariant m (rw r at W))
+      | then-may_move+in_default w ↦
+          let e = w.join.ensures.both_costs_together ∙ ap ((g.S.Scale.measure c.args.group.now.board.scale.now).join c.args.spot.sofar) w.move_price-price.ensures.the_price_of_the_move in
+          let n : w.or-nearer.result ≡ option_or (cost_of c.loop-x.best) c.args.bound = search rules in
+          let m = sym c.may_move.ensures.whether_the_move_is_open_and_meets_no_conflict ∙ w.if-may_move.true in
+          let k = w.after-next.ensures.the_next_train_has_gone_there in
+          let W = rw (k, e, n) at w.explore-then-may_move.ensures.the_best_that_stays_below_the_bound in
+          let r : w.explore-then-may_move.result ≡ None = search rules in
+          rw w.best-is (scan_move _ (g.met.S.Scale.lawful _) _ c.args.spot c.args.bound c.requires jk la lt c.loop-x.x c.loop-x.best None c.loop-x.invariant m (rw r at W))
       | else-may_move w ↦
           let m = sym c.may_move.ensures.whether_the_move_is_open_and_meets_no_conflict ∙ w.if-may_move.false in
           rw w.best-is (scan_skip _ (g.met.S.Scale.lawful _) _ c.args.spot c.args.bound c.requires jk la lt c.loop-x.x c.loop-x.best c.loop-x.invariant m)
