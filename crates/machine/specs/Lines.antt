@@ -5,11 +5,13 @@ use Rattle.track.specs.declared.refusal.Refusal.{Refusal}
 use Rattle.sheets.specs.declared.sheet.Sheet.{Sheet}
 use Rattle.frames.specs.Frames.{Told, read_as}
 use Rattle.planner.specs.Promise.{Reply, declined}
-use Rattle.planner.specs.History.{Meaning}
+use Rattle.planner.specs.History.{Meaning, says_done}
 use Rattle.machine.specs.Asked.{Asked, asked_by}
 use Rattle.machine.specs.Progress.{Progress, moved, after_line, progress_of}
 use Rattle.machine.specs.Phases.{StandsAt, FrameKept}
+use Rattle.machine.specs.declared.desk.Desk.{Desk}
 use Rattle.machine.specs.declared.phase.Phase.{Phase}
+use Rattle.machine.specs.declared.phase.Phase.TheVariants.{Drawing}
 
 -- a line with its reply, and the sheet before and after it
 pub record LineEvent (C : Type 0) : Type 0 where
@@ -49,3 +51,8 @@ module _ {R S Q C : Type 0} (k : Meaning R S Q C) (rule : R) (scale : S) (below 
   pub record LineHistory (cells : ℕ) (es : List (LineEvent C)) (phase : Phase R S Q) : Type 0 where
     pub stands : StandsAt k rule scale below (progress_of cells (lines_of es)) phase
     pub kept : AllLinesKept cells (progress_of cells []) es
+
+-- a call that draws: its reply is kept, whatever the machine was made with
+abbrev pub DrawOwes : {R S Q C : Type 0} → Meaning R S Q C → Desk R S Q → Asked → Result (Unit {0}) Refusal → Desk R S Q → Type 0
+DrawOwes {R} {S} {Q} k desk asked r next =
+    (rule : R) (scale : S) (below : Q) (s : Sheet) → TurnOwes k rule scale below (Drawing desk) asked (says_done r) s s (Drawing next)

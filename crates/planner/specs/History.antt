@@ -1,12 +1,13 @@
 -- When a planner is what a list of calls leaves of the planner that was made, and what a run of calls is.
-use Rattle.std.specs.Prelude.{◌≡◌, ℕ, List, [], ◌∷◌, ◌++◌, Ok, Err, Result}
+use Rattle.std.specs.Prelude.{◌≡◌, ℕ, List, [], ◌∷◌, ◌++◌, Ok, Err, Option, Result}
 use Rattle.track.specs.Layouts.{sections_of}
-use Rattle.track.specs.Refusals.{number_of}
+use Rattle.track.specs.Refusals.{number_of, granted}
 use Rattle.track.specs.declared.layout.Layout.{Layout}
 use Rattle.track.specs.declared.refusal.Refusal.{Refusal}
 use Rattle.rules.specs.Conflicts.{Conflicts}
 use Rattle.scales.specs.Measure.{Measure}
-use Rattle.roster.specs.Book.{Call, withdraw, possess, give_up, ask, plan, book_of, entry_of}
+use Rattle.roster.specs.Book.{Call, withdraw, possess, give_up, ask, plan, book_of, changed, entry_of}
+use Rattle.roster.specs.Book.{declined as refusal}
 use Rattle.roster.specs.Model.{seen}
 use Rattle.sheets.specs.Inquiry.{Inquiry, plan_of}
 use Rattle.sheets.specs.Theorems.{Same}
@@ -27,6 +28,14 @@ pub record Meaning (R S Q C : Type 0) : Type 1 where
 
 abbrev pub meaning : {R S Q C : Type 0} → (R → Layout → Conflicts) → (S → Measure C) → (Q → Inquiry C → ℕ → Type 0) → Meaning R S Q C
 meaning conflicts measure takes = record { conflicts = conflicts; measure = measure; takes = takes }
+
+-- the refusal that a call meets at a planner by the book, if it meets one
+abbrev pub judged : {R S Q : Type 0} → Planner R S Q → Call → Option ℕ
+judged p c = refusal (sections_of p.layout) (seen p.roster) c
+
+-- the planner q has the book that a call on p leaves: the change if the call is granted, else the book of p
+abbrev pub Leaves : {R S Q A : Type 0} → (p : Planner R S Q) → Call → Result A Refusal → (q : Planner R S Q) → Type 0
+Leaves p c r q = seen q.roster ≡ granted r (changed (seen p.roster) c) (seen p.roster)
 
 -- the call that an order makes, with so many cells handed in
 abbrev pub call_of : Order → (cells : ℕ) → Call

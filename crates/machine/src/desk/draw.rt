@@ -1,9 +1,9 @@
 ghost use Rattle.std.specs.Prelude.{◌≡◌};
 ghost use Rattle.sheets.specs.declared.sheet.Sheet.{Sheet};
 ghost use Rattle.planner.specs.Promise.Reply.{accepted};
-ghost use Rattle.planner.specs.History.{meaning, says_done};
+ghost use Rattle.planner.specs.History.{meaning};
 ghost use Rattle.machine.specs.Asked.Asked.{sections, link, foul, finish};
-ghost use Rattle.machine.specs.Lines.{TurnOwes};
+ghost use Rattle.machine.specs.Lines.{DrawOwes, TurnOwes};
 ghost use Rattle.machine.specs.declared.phase.Phase.TheVariants.{Drawing as IsDrawing, Planning as IsPlanning};
 
 use crate::desk::Desk;
@@ -16,19 +16,19 @@ use track::refusal::Refusal;
 // The three calls that draw only hand on: each is here for its clause, which says what the reply is worth for the whole machine.
 impl<R: Rule, S: Scale, Q: Search<S>> Desk<R, S, Q> {
     pub(crate) fn add_sections(&mut self, k: u8) -> Result<(), Refusal>
-        ensures the_reply_is_kept { (rule : R) (scale : S) (below : Q) (s : Sheet) → TurnOwes (meaning R.Rule.conflicts S.Scale.measure Q.Search.takes) rule scale below (IsDrawing self.old) (sections k) (says_done result) s s (IsDrawing self.new) }
+        ensures the_reply_is_kept { DrawOwes (meaning R.Rule.conflicts S.Scale.measure Q.Search.takes) self.old (sections k) result self.new }
     {
         self.drawing.add_sections(k)
     }
 
     pub(crate) fn add_link(&mut self, a: u8, b: u8, points: u8) -> Result<(), Refusal>
-        ensures the_reply_is_kept { (rule : R) (scale : S) (below : Q) (s : Sheet) → TurnOwes (meaning R.Rule.conflicts S.Scale.measure Q.Search.takes) rule scale below (IsDrawing self.old) (link a b points) (says_done result) s s (IsDrawing self.new) }
+        ensures the_reply_is_kept { DrawOwes (meaning R.Rule.conflicts S.Scale.measure Q.Search.takes) self.old (link a b points) result self.new }
     {
         self.drawing.add_link(a, b, points)
     }
 
     pub(crate) fn add_foul(&mut self, a: u8, b: u8, c: u8, d: u8) -> Result<(), Refusal>
-        ensures the_reply_is_kept { (rule : R) (scale : S) (below : Q) (s : Sheet) → TurnOwes (meaning R.Rule.conflicts S.Scale.measure Q.Search.takes) rule scale below (IsDrawing self.old) (foul a b c d) (says_done result) s s (IsDrawing self.new) }
+        ensures the_reply_is_kept { DrawOwes (meaning R.Rule.conflicts S.Scale.measure Q.Search.takes) self.old (foul a b c d) result self.new }
     {
         self.drawing.add_foul(a, b, c, d)
     }

@@ -1,11 +1,9 @@
 ghost use Rattle.std.specs.Prelude.{◌≡◌, length};
-ghost use Rattle.track.specs.Layouts.{sections_of};
 ghost use Rattle.track.specs.Refusals.{refused_by};
-ghost use Rattle.roster.specs.Book.{declined};
 ghost use Rattle.roster.specs.Book.Call.{plan};
 ghost use Rattle.roster.specs.Model.{seen};
 ghost use Rattle.planner.specs.Promise.{PlanKept};
-ghost use Rattle.planner.specs.History.{meaning, setting_of, Step, event, says_plan};
+ghost use Rattle.planner.specs.History.{meaning, judged, setting_of, Step, event, says_plan};
 
 use crate::planner::Planner;
 use rules::rule::Rule;
@@ -21,7 +19,7 @@ impl<R, S, Q> Planner<R, S, Q> {
     // Whether a plan of so many steps may be made with so many cells.
     // The conditions stand together in the order of the book, though the question asks the first two again.
     fn check_plan(&self, steps: usize, cells: usize) -> Result<(), Refusal>
-        ensures the_first_condition_met_declines { refused_by result ≡ declined (sections_of self.now.layout) (seen self.now.roster) (plan steps cells) }
+        ensures the_first_condition_met_declines { refused_by result ≡ judged self.now (plan steps cells) }
     {
         if steps == 0 || steps > 16 {
             return Err(Refusal::StepsOutOfRange);
@@ -44,7 +42,7 @@ impl<R: Rule, S: Scale, Q: Search<S>> Planner<R, S, Q> {
         cells: &mut [Option<S::Cost>],
         sheet: &mut Sheet,
     ) -> Result<(S::Cost, usize), Refusal>
-        ensures a_refusal_of_the_book_or_the_answer_of_the_grouping { PlanKept (setting_of (meaning R.Rule.conflicts S.Scale.measure Q.Search.takes) self.old) (seen self.old.roster) steps (length cells.old) (declined (sections_of self.old.layout) (seen self.old.roster) (plan steps (length cells.old))) (says_plan result) sheet.old sheet.new }
+        ensures a_refusal_of_the_book_or_the_answer_of_the_grouping { PlanKept (setting_of (meaning R.Rule.conflicts S.Scale.measure Q.Search.takes) self.old) (seen self.old.roster) steps (length cells.old) (judged self.old (plan steps (length cells.old))) (says_plan result) sheet.old sheet.new }
         ensures planning_leaves_the_book { seen self.new.roster ≡ seen self.old.roster }
         ensures the_reply_is_kept_after_any_calls { Step (meaning R.Rule.conflicts S.Scale.measure Q.Search.takes) self.old (event (plan steps (length cells.old)) (says_plan result) sheet.old sheet.new) self.new }
     {
