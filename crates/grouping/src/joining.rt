@@ -17,7 +17,8 @@ use sheets::question::Question;
 use sheets::sheet::Sheet;
 
 // The four parameters that these functions share are no struct with methods: behind a `&mut self` each clause would have to add
-// that what is asked and the number of cells stay.
+// that what is asked and the number of cells stay. So clauses name what is taken below, what is asked and the number of cells
+// side by side: one word for the three would be given the same terms.
 
 // Asks below for some rows of the question's group.
 fn ask_for<S: Scale, R: Rule, Q: Search<S>>(
@@ -32,6 +33,7 @@ fn ask_for<S: Scale, R: Rule, Q: Search<S>>(
     ensures the_answer_is_right { Answered (about (inquired R.Rule.conflicts S.Scale.measure asked.now) (marked marks)) (Q.Search.takes below.old (about (inquired R.Rule.conflicts S.Scale.measure asked.now) (marked marks)) (length cells.old)) draft.old draft.new result }
 {
     let question = asked.question;
+    // by each field: `..` cannot fill a struct with an invariant
     let part = Question {
         layout: question.layout,
         roster: question.roster,
@@ -39,9 +41,8 @@ fn ask_for<S: Scale, R: Rule, Q: Search<S>>(
         steps: question.steps,
     };
     let asked = Asked {
-        rule: asked.rule,
-        scale: asked.scale,
         question: &part,
+        ..*asked
     };
     below.search(&asked, cells, draft)
 }
