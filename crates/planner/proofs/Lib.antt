@@ -5,4 +5,3 @@ pub mod Plans
 pub mod Runs
 pub mod Choice
 pub mod Planning
-pub mod Numbers

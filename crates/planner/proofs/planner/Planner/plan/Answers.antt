@@ -5,14 +5,14 @@ use Rattle.planner.specs.History.{meaning}
 use Rattle.planner.proofs.Planning.{is_declined, is_asked, is_answered}
 use Rattle.planner.proofs.planner.Planner.plan.Goals as goal
 
-pub returns-in_err-check_plan : goal.returns-in_err-check_plan
-returns-in_err-check_plan g c =
+pub returns-in_err-check_plan-clause-the_reply_is_kept_after_any_calls : goal.returns-in_err-check_plan-clause-the_reply_is_kept_after_any_calls
+returns-in_err-check_plan-clause-the_reply_is_kept_after_any_calls g c =
     let k = meaning g.R.Rule.conflicts g.S.Scale.measure g.Q.Search.takes in
     let r = err_from_is_err_and c.from_residual.result c.from_residual.ensures.1 in
     let d =
     is_declined k c.args.self.now _ refl refl refl refl c.args.steps (length c.args.cells.now) refl (number_of r.0) c.args.sheet.now
     (rw r.2 c.in_err-check_plan.ensures.the_first_condition_met_declines) in
-    record { a_refusal_of_the_book_or_the_answer_of_the_grouping = rw r.1 d.answer; planning_leaves_the_book = refl; the_reply_is_kept_after_any_calls = rw r.1 d.step }
+    rw r.1 d.step
 
 pub returns-in_err-question : goal.returns-in_err-question
 returns-in_err-question g c =
