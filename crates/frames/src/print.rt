@@ -31,7 +31,8 @@ fn train_bytes(number: u16, sections: &[u8; 17]) -> [u8; 20]
     bytes
 }
 
-// The bytes of the line of the total, from the bytes of the cost.
+// The bytes of the line of the total, from the bytes of the cost. The array is as long as the longest such line:
+// printing works in fixed memory. The line is its front, two bytes more than the cost has.
 fn total_bytes(cost: &[u8], groups: u8) -> [u8; 6]
     requires { length cost.now ≤ 4 }
     ensures the_cost_and_the_groups { take (length cost.now + 2) result ≡ total_bytes cost.now groups }
