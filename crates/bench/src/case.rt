@@ -1,4 +1,4 @@
-ghost use Rattle.std.specs.Prelude.{◌≤◌};
+ghost use Rattle.std.specs.Prelude.{◌<◌, ◌≤◌};
 
 use std::fmt;
 
@@ -13,7 +13,10 @@ pub struct Case {
     pub steps: usize,
     // whether the walk is asked too: its work grows with the number of sheets. A yes or no of the case: an enum of two names would be no plainer
     pub walked: bool,
+    ghost within_32_sections: { half ≤ 16 },
+    ghost on_the_line: { far < half },
     ghost few: { trains ≤ 3 },
+    ghost short: { steps ≤ 16 },
 }
 
 pub const CASES: [Case; 7] = [
