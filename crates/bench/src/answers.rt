@@ -1,5 +1,5 @@
 use crate::places::Places;
-use crate::report::{BLANK, Report};
+use crate::report::Report;
 use rules::following::Following;
 use scales::steps::Steps;
 use search::answer::Unplanned;
@@ -13,6 +13,7 @@ pub struct Answers;
 
 fn show_sheet(rt: &HostRuntime, question: &Question, sheet: &Sheet) -> anyhow::Result<()> {
     for sections in &sheet.rows[..question.roster.count()] {
+        // a place in brackets would be no plainer: it wants a lemma that no question has more than 16 steps
         let places = Places(sections.get(..=question.steps).unwrap_or(sections));
         println!(rt; "   {places}")?;
     }
@@ -28,7 +29,7 @@ impl Report for Answers {
         asked: &Asked<Following, Steps>,
         cells: &mut [Option<u16>],
     ) -> anyhow::Result<()> {
-        let mut sheet = BLANK;
+        let mut sheet = Sheet::default();
         match search.search(asked, cells, &mut sheet) {
             Err(Unplanned::BeyondReach) => println!(rt; "  {name}: beyond reach")?,
             Err(Unplanned::NoSheet) => println!(rt; "  {name}: none")?,

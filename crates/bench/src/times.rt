@@ -1,8 +1,9 @@
-use crate::report::{BLANK, Report};
+use crate::report::Report;
 use rules::following::Following;
 use scales::steps::Steps;
 use search::search::Search;
 use sheets::asked::Asked;
+use sheets::sheet::Sheet;
 use std::time::Instant;
 
 // Tells how long the search took.
@@ -17,7 +18,7 @@ impl Report for Times {
         asked: &Asked<Following, Steps>,
         cells: &mut [Option<u16>],
     ) -> anyhow::Result<()> {
-        let mut sheet = BLANK;
+        let mut sheet = Sheet::default();
         let start = Instant::now(rt)?;
         // its answer is let go: only the time is told
         let _ = search.search(asked, cells, &mut sheet);

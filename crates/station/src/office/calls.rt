@@ -8,12 +8,11 @@ use roster::train::Train;
 use sheets::sheet::Sheet;
 use std::io;
 
-// A sheet in which nothing is written yet.
-const BLANK: Sheet = Sheet { rows: [[0; 17]; 8] };
-
-// How many times the sheet of a call has: of a plan one more than steps, of any other none.
+// How many times the sheet of a call has: of a plan one more than steps, of any other none. That 0 is a count: an `Option` would be no plainer,
+// since only a plan that is told is shown.
 fn times(order: &Order) -> usize {
     match order {
+        // too many steps are asked for too, and declined
         Order::Plan(steps) => steps.saturating_add(1),
         _ => 0,
     }
@@ -37,6 +36,7 @@ impl<S: InWords> Office<'_, S, S::Cost> {
         self.scale.say(self.rt, cost)?;
         println!(self.rt; ", groups: {groups}")?;
         for (train, sections) in self.planner.roster().trains().iter().zip(&sheet.rows) {
+            // `min` changes nothing, as a plan that is told has at most 16 steps; a proof of it here would make the line no plainer
             let row = Row {
                 number: train.number,
                 sections: &sections[..times.min(17)],
@@ -46,9 +46,10 @@ impl<S: InWords> Office<'_, S, S::Cost> {
         Ok(())
     }
 
-    // Makes a call, and says what is asked and what is replied. Hands on the note, if one is given.
+    // Makes a call, and says what is asked and what is replied. Hands on the note, if one is given:
+    // it stands beside the result, and not in it, since it is to be given up also where printing fails.
     pub fn call(&mut self, order: Order) -> (Option<Note>, io::Result<()>) {
-        let mut sheet = BLANK;
+        let mut sheet = Sheet::default();
         let times = times(&order);
         let asked = print!(self.rt; "{} ", Spoken(&order));
         let (note, replied) = match self.planner.answer(order, self.cells, &mut sheet) {
@@ -77,6 +78,7 @@ impl<S: InWords> Office<'_, S, S::Cost> {
         said
     }
 
+    // The three numbers as they are called: a `Train` at each call would be no plainer, as it takes five lines for one.
     pub fn enter(&mut self, number: u16, start: u8, goal: u8) -> io::Result<()> {
         self.make(Order::Enter(Train {
             number,

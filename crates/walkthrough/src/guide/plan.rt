@@ -17,13 +17,10 @@ use sheets::sheet::Sheet;
 use std::io;
 use track::layout::Layout;
 
-// A sheet in which nothing is written yet.
-const BLANK: Sheet = Sheet { rows: [[0; 17]; 8] };
-
 impl Guide<'_> {
     fn plan<S: InWords, R: Rule>(&mut self, name: &str, asked: &Asked<R, S>) -> io::Result<()> {
         println!(self.rt; "{name}, {}", S::ORDER)?;
-        let mut sheet = BLANK;
+        let mut sheet = Sheet::default();
         match self.walk.search(asked, &mut [None], &mut sheet) {
             Err(Unplanned::BeyondReach) => println!(self.rt; "  the group is beyond reach"),
             Err(Unplanned::NoSheet) => println!(self.rt; "  there is no lawful sheet"),
