@@ -1,6 +1,8 @@
 use std::fmt;
 
 // The sections in which a train stands.
+// The walkthrough and the station have the like: two programs share no crate of their own, and one form in a library would be no plainer, as it would
+// owe a promise of its text, and the three print in different widths.
 #[derive(Clone, Copy)]
 pub struct Places<'a>(pub &'a [u8]);
 

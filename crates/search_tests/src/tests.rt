@@ -24,6 +24,7 @@ use track::refusal::Refusal;
 use walk::walk::Walk;
 
 // The ends of each link, and the points that it runs over: 0-1 leads to a ring 1-2-3-4.
+// A `Link` for each would be no plainer: it takes five lines for one, and the call that draws it takes the three numbers.
 // The tests of the layers have this ring, these trains and this blank sheet too: two test crates share no crate of their own, and a test is no
 // plainer where its expected values lie in another crate than what they follow from.
 const RING: [(u8, u8, u8); 5] = [(0, 1, 0), (1, 2, 2), (2, 3, 1), (1, 4, 1), (3, 4, 1)];
@@ -65,6 +66,7 @@ fn ring() -> Result<Layout, Refusal> {
 }
 
 // The answer of a search to all trains of a roster together, and the sheet.
+// Trains and steps go through two functions. A type for both would be no plainer: each test names them once, in the call.
 fn planned<S: Scale, R: Rule, Q: Search<S>>(
     search: &mut Q,
     rule: &R,
@@ -93,12 +95,14 @@ fn by_both<R: Rule>(
     cells: &mut [Option<u16>],
     trains: &[Train],
     steps: usize,
-) -> Result<(Answer<u16>, Sheet), Fail> {
+) -> Result<(Answer<u16>, Sheet), Fail>
+    requires { 1 ≤ length cells.old }
+{
     let mut walk = Walk::new(2)?;
     let told = planned(&mut walk, rule, &Steps, &mut [None], trains, steps)?;
     let again = planned(&mut Table, rule, &Steps, cells, trains, steps)?;
     assert_eq!(rt; again, told);
-    let fewer = cells.len().saturating_sub(1);
+    let fewer = cells.len() - 1;
     let beyond = planned(&mut Table, rule, &Steps, &mut cells[..fewer], trains, steps)?;
     assert_eq!(rt; beyond, (Err(Unplanned::BeyondReach), BLANK));
     Ok(told)

@@ -1,6 +1,8 @@
 use std::fmt;
 
 // The row of a sheet: the number of a train, and the sections in which it stands.
+// The walkthrough and the bench have the like: two programs share no crate of their own, and one form in a library would be no plainer, as it would
+// owe a promise of its text, and the three print in different widths.
 #[derive(Clone, Copy)]
 pub struct Row<'a> {
     pub number: u16,

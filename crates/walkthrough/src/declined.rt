@@ -2,6 +2,7 @@ use std::fmt;
 use track::refusal::Refusal;
 
 // What was declined, and why.
+// The station says why alike. One text in a library would be no plainer: it would owe a promise of it, and each program names the call in its own way.
 #[derive(Clone, Copy)]
 pub struct Declined<'a> {
     pub what: &'a str,

@@ -14,6 +14,7 @@ use walk::walk::Walk;
 
 // The ends of each link, and the points that it runs over: the up line 0-1-2-3 and the down line 4-5-6-7, two crossovers and a platform loop
 // at 8.
+// A `Link` for each would be no plainer: it takes five lines for one, and the call that draws it takes the three numbers.
 const LINKS: [(u8, u8, u8); 10] = [
     (0, 1, 0),
     (1, 2, 2),

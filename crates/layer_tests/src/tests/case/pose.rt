@@ -13,8 +13,8 @@ impl Case<'_> {
         drawing.add_sections(self.sections)?;
         // The tests of the searches draw theirs alike. A call for both would be no plainer: the loop is one line, while that call would owe a promise of
         // its own, and of what is drawn where a link half way is declined.
-        for (a, b, points) in self.links {
-            drawing.add_link(*a, *b, *points)?;
+        for &(a, b, points) in self.links {
+            drawing.add_link(a, b, points)?;
         }
         Ok(drawing.finish())
     }
