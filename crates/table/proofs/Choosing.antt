@@ -1,6 +1,9 @@
 -- The search of one joint step: a turn of its loop, its end and its last train.
-use Rattle.std.proofs.Common.{◌≡◌, ℕ, ◌+◌, ◌<◌, ◌≤◌, Bool, true, false, cond, List, length, get_or, take, Some, None, Option, sym, ap, ◌∙◌, arith, length-take-le, get_or-take}
+use Rattle.std.proofs.Common.{◌≡◌, ℕ, ◌+◌, ◌<◌, ◌≤◌, Bool, true, false, cond, List, length, get_or, take, Some, None, Option, sym, refl, ap, subst, ◌∙◌, arith, length-take-le, get_or-take}
 use Rattle.std.proofs.lemmas.Bool.{and_left}
+use Rattle.track.specs.Layouts.{sections_of}
+use Rattle.track.specs.declared.layout.Layout.{Layout}
+use Rattle.rules.specs.Conflicts.{Conflicts}
 use Rattle.scales.specs.Measure.{Measure, MeasureLaws}
 use Rattle.scales.specs.Runs.{FirstLeast}
 use Rattle.words.specs.Words.{with, rest}
@@ -8,7 +11,9 @@ use Rattle.words.specs.Joint.{Task, may_move, move_price, process}
 use Rattle.words.specs.Turns.{after, todo, joint, move_cost}
 use Rattle.words.specs.declared.turn.Turn.{Turn}
 use Rattle.words.proofs.Turns.{todo_is, joint_is, move_cost_is}
-use Rattle.table.specs.Candidates.{Candidates}
+use Rattle.words.specs.Tasks.{task}
+use Rattle.words.specs.declared.board.Board.{Board}
+use Rattle.table.specs.Candidates.{Candidates, reached}
 use Rattle.table.specs.Steps.{Picked}
 use Rattle.table.proofs.Tryings.{pick_at, tried_cost, tried_moves}
 
@@ -61,3 +66,12 @@ module _ {C : Type 0} (S : Measure C) (K : Task) (t : Turn) (jk : t.moved < K.tr
         cost = rw (u, m) (tried_cost S L K.sections reach xs T row (λ x e. row_shut x (wide x e)) found A);
         goes = tried_moves S L K.sections reach xs T row (λ x e. row_shut x (wide x e)) found A;
       }
+
+-- the first of the least of the cells of all the tries is the best move on a board
+pub picked_on : {P R C : Type 0} (conflicts : R → Layout → Conflicts) (b : Board P R) (S : Measure C) (L : MeasureLaws S) (t : Turn)
+    → t.moved < b.trains → b.trains ≤ length t.at → b.trains ≤ length t.to → (tries xs : List ℕ) (run : List (Option C)) (i : ℕ) (found : Option (ℕ × C))
+    → Candidates (sections_of b.layout.now) (reached b.layout.now (get_or t.at t.moved 0)) tries → xs ≡ tries → Filling S (task conflicts b) t xs i run → i ≡ length xs
+    → FirstLeast S (length (take (length xs) run)) (λ k. get_or (take (length xs) run) k None) found → Picked S (task conflicts b) t (pick_at xs found)
+picked_on conflicts b S L t jk ka kt tries xs run i found T x F e W =
+    picked_all S (task conflicts b) t jk ka kt L (reached b.layout.now (get_or t.at t.moved 0)) (λ y h. and_left _ _ h) xs run (take (length xs) run) found
+    (subst (Candidates (sections_of b.layout.now) (reached b.layout.now (get_or t.at t.moved 0))) (sym x) T) (rw e at F) refl W

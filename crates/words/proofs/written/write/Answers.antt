@@ -1,10 +1,7 @@
 use Rattle.std.proofs.Common.{◌+◌, ◌<◌, set, sym, subst, get_or-take, rules}
 use Rattle.words.specs.Rows.{Written}
-use Rattle.words.proofs.RowProofs.{row_written, written_none, written_more}
+use Rattle.words.proofs.RowProofs.{row_written, written_more}
 use Rattle.words.proofs.written.write.Goals as goal
-
-pub loop-i-init : goal.loop-i-init
-loop-i-init c = written_none c.args.chosen.now c.args.plan.now c.args.steps c.args.sheet.now
 
 pub loop-i-preserved : goal.loop-i-preserved
 loop-i-preserved c =

@@ -1,21 +1,19 @@
-use Rattle.std.proofs.Common.{true, refl}
+use Rattle.std.proofs.Common.{true}
 use Rattle.sheets.proofs.Posed.{sound}
 use Rattle.words.proofs.Solving.{trains_some, trains_most, starts_on}
 use Rattle.words.proofs.group.Group.of.Goals as goal
 
-pub invariant_of-result : goal.invariant_of-result
-invariant_of-result g c =
-    let q = c.args.asked.now.question.now in
-    let s = sound q in
-    let H = c.choose-trains.ensures.the_rows_of_the_group_in_rising_order in
-    record {
-      some = trains_some (λ l a b d e. true) q c.choose-trains.result H;
-      few = trains_most (λ l a b d e. true) q c.choose-trains.result H;
-      begun = s.steps_some;
-      short = s.steps_most;
-      starts = starts_on (λ l a b d e. true) q c.choose-trains.result H;
-      on_its_layout = refl;
-      of_its_roster = refl;
-      in_its_steps = refl;
-      chosen = H;
-    }
+pub invariant_of-result-clause-some : goal.invariant_of-result-clause-some
+invariant_of-result-clause-some g c = trains_some (λ l a b d e. true) c.args.asked.now.question.now _ c.choose-trains.ensures.the_rows_of_the_group_in_rising_order
+
+pub invariant_of-result-clause-few : goal.invariant_of-result-clause-few
+invariant_of-result-clause-few g c = trains_most (λ l a b d e. true) c.args.asked.now.question.now _ c.choose-trains.ensures.the_rows_of_the_group_in_rising_order
+
+pub invariant_of-result-clause-begun : goal.invariant_of-result-clause-begun
+invariant_of-result-clause-begun g c = (sound c.args.asked.now.question.now).steps_some
+
+pub invariant_of-result-clause-short : goal.invariant_of-result-clause-short
+invariant_of-result-clause-short g c = (sound c.args.asked.now.question.now).steps_most
+
+pub invariant_of-result-clause-starts : goal.invariant_of-result-clause-starts
+invariant_of-result-clause-starts g c = starts_on (λ l a b d e. true) c.args.asked.now.question.now _ c.choose-trains.ensures.the_rows_of_the_group_in_rising_order
