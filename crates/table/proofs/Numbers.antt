@@ -43,13 +43,14 @@ module _ (n : ℕ) (at : List ℕ) where
   code_below zero h = rw pow-zero (omega arith)
   code_below (suc k) h = rw pow-suc (digits_lt (code_below k (λ i l. h i (omega arith))) (h k (omega arith)))
 
-  pub code_fits : (i k : ℕ) → n ≤ 32 → k ≤ 8 → i < k → ((i : ℕ) → i < k → get_or at i 0 < n) → code_of n i at * n + get_or at i 0 < 2 ^ 40
+  pub code_fits : (i k : ℕ) {base code digit : ℕ} → n ≤ 32 → k ≤ 8 → i < k → ((i : ℕ) → i < k → get_or at i 0 < n) → base ≡ n → code ≡ code_of n i at → digit ≡ get_or at i 0
+      → code * base + digit < 2 ^ 40
   unfolding code_of
-  code_fits i k nn kk ik h =
+  code_fits i k nn kk ik h x y z =
       let a = code_below (suc i) (λ z l. h z (omega arith)) in
       let s : suc i ≤ 8 = omega arith in
       let b = power_size n (suc i) nn s in
-      omega arith
+      rw (x, y, z) (omega arith)
 
   -- one digit more
   pub code_more : (i : ℕ) {base code digit : ℕ} → base ≡ n → code ≡ code_of n i at → digit ≡ get_or at i 0 → code * base + digit ≡ code_of n (i + 1) at

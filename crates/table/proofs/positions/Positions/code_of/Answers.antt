@@ -12,14 +12,20 @@ loop-section-init g c = refl
 pub overflow_mul-code : goal.overflow_mul-code
 overflow_mul-code g c =
     let h : c.loop-section.section-index < c.args.self.now.group.now.board.trains = omega (arith, length-take {A = ℕ}) in
-    rw (c.from-sections.ensures, c.sections.ensures.how_many_sections_there_are, c.loop-section.invariant)
-    (omega (arith, code_fits (sections_of c.args.self.now.group.now.board.layout.now) c.args.at c.loop-section.section-index c.args.self.now.group.now.board.trains (sections_most c.args.self.now.group.now.board.layout.now) c.args.self.now.group.now.few h c.requires))
+    omega (
+      arith,
+      code_fits (sections_of c.args.self.now.group.now.board.layout.now) c.args.at c.loop-section.section-index c.args.self.now.group.now.board.trains (sections_most c.args.self.now.group.now.board.layout.now) c.args.self.now.group.now.few h c.requires
+          (c.from-sections.ensures ∙ c.sections.ensures.how_many_sections_there_are) c.loop-section.invariant refl,
+    )
 
 pub overflow_add-code : goal.overflow_add-code
 overflow_add-code g c =
     let h : c.loop-section.section-index < c.args.self.now.group.now.board.trains = omega (arith, length-take {A = ℕ}) in
-    rw (c.from-sections.ensures, c.sections.ensures.how_many_sections_there_are, c.loop-section.invariant, c.from.ensures, get_or-take c.args.self.now.group.now.board.trains c.args.at c.loop-section.section-index 0 h)
-    (omega (arith, code_fits (sections_of c.args.self.now.group.now.board.layout.now) c.args.at c.loop-section.section-index c.args.self.now.group.now.board.trains (sections_most c.args.self.now.group.now.board.layout.now) c.args.self.now.group.now.few h c.requires))
+    omega (
+      arith,
+      code_fits (sections_of c.args.self.now.group.now.board.layout.now) c.args.at c.loop-section.section-index c.args.self.now.group.now.board.trains (sections_most c.args.self.now.group.now.board.layout.now) c.args.self.now.group.now.few h c.requires
+          (c.from-sections.ensures ∙ c.sections.ensures.how_many_sections_there_are) c.loop-section.invariant (c.from.ensures ∙ get_or-take c.args.self.now.group.now.board.trains c.args.at c.loop-section.section-index 0 h),
+    )
 
 pub loop-section-preserved : goal.loop-section-preserved
 loop-section-preserved g c =
