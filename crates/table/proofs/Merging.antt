@@ -1,31 +1,12 @@
 -- The neighbours of a section and itself, put together in rising order.
-use Rattle.std.proofs.Common.{◌≡◌, ℕ, zero, suc, ◌+◌, ◌-◌, ◌<◌, ◌≤◌, true, false, cond, eqb, List, [], ◌∷◌, length, get_or, is_some, Some, None, Option, sym, refl, ap, ◌∙◌, subst, ⊎_elim, arith}
-use Rattle.std.proofs.lemmas.Bool.{cases_lt, or_cases, eqb-true, and_parts, both_ways}
-use Rattle.std.proofs.lemmas.Bool.Decides.{nat_tests}
+use Rattle.std.proofs.Common.{◌≡◌, ℕ, zero, suc, ◌+◌, ◌-◌, ◌<◌, ◌≤◌, true, false, eqb, List, length, get_or, is_some, Some, None, Option, sym, refl, ap, ◌∙◌, subst, ⊎_elim, arith}
+use Rattle.std.proofs.lemmas.Bool.{cases_lt, or_cases, eqb-true, both_ways}
 use Rattle.std.proofs.lemmas.List.Edits.{length-insert, get_or-insert_below, get_or-insert_at, get_or-insert_above}
-use Rattle.std.specs.List.{insert, find}
-use Rattle.std.specs.Option.{option_map}
-use Rattle.track.specs.Links.{joins, points_of, link_good, links_good}
-use Rattle.track.specs.Model.{laid}
+use Rattle.std.specs.List.{insert}
 use Rattle.track.specs.Layouts.{sections_of, look, Neighbours}
 use Rattle.track.specs.declared.layout.Layout.{Layout}
-use Rattle.track.specs.declared.link.Link.{Link}
-use Rattle.track.proofs.Laws.{look_inside, sections_most}
+use Rattle.track.proofs.Laws.{look_inside, look_self, sections_most}
 use Rattle.table.specs.Candidates.{Candidates, reached}
-
--- no link leads from a section to itself
-joins_self : (n : ℕ) (l : Link) (a : ℕ) → link_good n l ≡ true → joins l a a ≡ false
-joins_self n l a g = grind (arith, nat_tests)
-
-points_self : (n : ℕ) (ls : List Link) (a : ℕ) → links_good n ls ≡ true → is_some (points_of ls a a) ≡ false
-points_self n [] a g = cc
-points_self n (l ∷ ls) a g =
-    let p = and_parts (link_good n l) (links_good n ls) g in
-    ap (λ b. is_some (option_map (λ (k : Link). k.points) (cond b (Some l) (find (λ (k : Link). joins k a a) ls)))) (joins_self n l a p.0) ∙ points_self n ls a p.1
-
-look_self : (l : Layout) (a : ℕ) → is_some (look l a a) ≡ false
-unfolding look
-look_self l a = points_self (laid l).sections (laid l).links a l.drawing.sound
 
 -- numbers that rise are no fewer than their places
 rises : (xs : List ℕ) → ((i j : ℕ) → i < j → j < length xs → get_or xs i 0 < get_or xs j 0) → (i : ℕ) → i < length xs → i ≤ get_or xs i 0

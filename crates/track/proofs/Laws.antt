@@ -1,9 +1,9 @@
 -- What holds of every layout.
-use Rattle.std.proofs.Common.{◌≡◌, ℕ, ◌<◌, ◌≤◌, Some}
+use Rattle.std.proofs.Common.{◌≡◌, ℕ, ◌<◌, ◌≤◌, false, is_some, Some}
 use Rattle.track.specs.Layouts.{sections_of, look, fouled, LayoutLaws}
 use Rattle.track.specs.Model.{laid}
 use Rattle.track.specs.declared.layout.Layout.{Layout}
-use Rattle.track.proofs.Linking.{points_few, points_inside}
+use Rattle.track.proofs.Linking.{points_few, points_inside, points_self}
 use Rattle.track.proofs.Fouling.{fouled_by_swapped, fouled_by_turned}
 
 pub sections_most : (l : Layout) → sections_of l ≤ 32
@@ -17,6 +17,11 @@ look_few l a b p e = points_few (laid l).sections (laid l).links a b p l.drawing
 pub look_inside : (l : Layout) (a b p : ℕ) → look l a b ≡ Some p → (a < sections_of l) × (b < sections_of l)
 unfolding look sections_of
 look_inside l a b p e = points_inside (laid l).sections (laid l).links a b p l.drawing.sound e
+
+-- no link leads from a section to itself
+pub look_self : (l : Layout) (a : ℕ) → is_some (look l a a) ≡ false
+unfolding look
+look_self l a = points_self (laid l).sections (laid l).links a l.drawing.sound
 
 pub fouled_swapped : (l : Layout) (a b c d : ℕ) → fouled l a b c d ≡ fouled l c d a b
 unfolding fouled

@@ -96,3 +96,13 @@ module _ (n : ℕ) (ls : List Link) (a b p : ℕ) (h : links_good n ls ≡ true)
 
   pub points_inside : (a < n) × (b < n)
   points_inside = let f = found_good n ls a b p h e in inside_here n f.0 a b f.1 f.2
+
+-- no link leads from a section to itself
+joins_self : (n : ℕ) (l : Link) (a : ℕ) → link_good n l ≡ true → joins l a a ≡ false
+joins_self n l a g = grind (arith, nat_tests)
+
+pub points_self : (n : ℕ) (ls : List Link) (a : ℕ) → links_good n ls ≡ true → is_some (points_of ls a a) ≡ false
+points_self n [] a g = cc
+points_self n (l ∷ ls) a g =
+    let p = and_parts (link_good n l) (links_good n ls) g in
+    ap (λ b. is_some (option_map (λ (k : Link). k.points) (cond b (Some l) (find (λ (k : Link). joins k a a) ls)))) (joins_self n l a p.0) ∙ points_self n ls a p.1

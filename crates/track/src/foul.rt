@@ -1,5 +1,5 @@
 ghost use Rattle.std.specs.Prelude.{◌≡◌};
-ghost use Rattle.track.specs.Fouls.{crosses, fouled_by};
+ghost use Rattle.track.specs.Fouls.{crosses};
 
 use crate::link::same_link;
 
@@ -22,11 +22,4 @@ impl Foul {
         (same_link(one, first) && same_link(two, second))
             || (same_link(one, second) && same_link(two, first))
     }
-}
-
-// Whether one of the fouls is of the links of `foul`.
-pub(crate) fn fouled_in(fouls: &[Foul], foul: &Foul) -> bool
-    ensures whether_one_is_of_these_links { result ≡ fouled_by fouls.now foul.now.a foul.now.b foul.now.c foul.now.d }
-{
-    fouls.iter().any(|other| other.is_of(foul))
 }

@@ -1,5 +1,5 @@
 ghost use Rattle.std.specs.Prelude.{◌≡◌};
-ghost use Rattle.track.specs.Links.{same_link, joins, points_of, linked_either};
+ghost use Rattle.track.specs.Links.{same_link, joins, points_of};
 
 // A link between two sections, with the number of points that are set on it.
 #[derive(Clone, Copy)]
@@ -34,11 +34,4 @@ pub(crate) fn points_in(links: &[Link], a: u8, b: u8) -> Option<u8>
         .iter()
         .find(|link| link.runs_between(a, b))
         .map(|link| link.points)
-}
-
-// Whether there is a link between `a` and `b`, from whichever end.
-pub(crate) fn linked_in(links: &[Link], a: u8, b: u8) -> bool
-    ensures whether_a_link_joins_them { result ≡ linked_either links.now a b }
-{
-    points_in(links, a, b).is_some() || points_in(links, b, a).is_some()
 }

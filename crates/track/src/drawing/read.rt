@@ -4,8 +4,8 @@ ghost use Rattle.track.specs.Links.{linked_either};
 ghost use Rattle.track.specs.Model.{drawn};
 
 use crate::drawing::Drawing;
-use crate::foul::{Foul, fouled_in};
-use crate::link::{Link, linked_in};
+use crate::foul::Foul;
+use crate::link::{Link, points_in};
 
 impl Drawing {
     pub(crate) fn sections(&self) -> u8
@@ -31,13 +31,14 @@ impl Drawing {
     pub(crate) fn has_link(&self, a: u8, b: u8) -> bool
         ensures whether_there_is_such_a_link { result ≡ linked_either (drawn self.now).links a b }
     {
-        linked_in(self.links(), a, b)
+        let links = self.links();
+        points_in(links, a, b).is_some() || points_in(links, b, a).is_some()
     }
 
     // Whether the two links of `foul` foul already.
     pub(crate) fn has_foul(&self, foul: &Foul) -> bool
         ensures whether_the_foul_is_there { result ≡ fouled_by (drawn self.now).fouls foul.now.a foul.now.b foul.now.c foul.now.d }
     {
-        fouled_in(self.fouls(), foul)
+        self.fouls().iter().any(|other| other.is_of(foul))
     }
 }
