@@ -1,9 +1,11 @@
 -- Some rows of a question's group make a question too.
 use Rattle.std.proofs.Common.{◌≡◌, ℕ, zero, suc, ◌+◌, ◌<◌, ◌≤◌, Bool, true, false, cond, not, ◌||◌, eqb, ltb, ◌⊎◌, List, is_some, sym, refl, ap, ◌∙◌, subst, inl, inr, arith}
 use Rattle.std.proofs.lemmas.Bool.{cases_eq, and_from, and_parts, eq-eqb, ne_eqb, le-ltb}
-use Rattle.roster.specs.Model.{rows_of}
+use Rattle.track.specs.Layouts.{sections_of}
+use Rattle.roster.specs.Trains.{on_layout}
+use Rattle.roster.specs.Model.{held, rows_of}
 use Rattle.sheets.specs.Problem.{Group, count}
-use Rattle.sheets.specs.Posing.{marked, all_on, all_rows, question_declined}
+use Rattle.sheets.specs.Posing.{marked, all_rows, question_declined}
 use Rattle.sheets.specs.declared.question.Question.{Question}
 use Rattle.sheets.proofs.Alls.{all_at, all_from}
 use Rattle.sheets.proofs.Posed.{sound}
@@ -24,7 +26,7 @@ unfolding question_declined all_rows
 some_rows q marks h =
     let s = sound q in
     let o = q.roster.now in
-    let a : all_on q.layout.now o ≡ true = s.ends in
+    let a : on_layout (sections_of q.layout.now) (held o) ≡ true = s.ends in
     let b : all_rows o marks ≡ true = all_from 8 _ (λ r k. row r k (marked marks r) refl) in
     let t : (eqb q.steps 0 || ltb 16 q.steps) ≡ false = within s.steps_some s.steps_most in
     let m : eqb (count (rows_of o) (marked marks)) 0 ≡ false = ne_eqb _ _ (λ z. omega (arith, z, count_some (rows_of o) (marked marks) h.row h.a_row h.is_marked)) in

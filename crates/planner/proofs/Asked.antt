@@ -1,31 +1,19 @@
 -- The question of a plan call can be asked, and asks what the book says.
-use Rattle.std.proofs.Common.{◌≡◌, ℕ, zero, suc, ◌+◌, ◌<◌, ◌≤◌, Bool, true, false, cond, not, ◌&&◌, ◌||◌, eqb, ltb, List, [], ◌∷◌, length, get_or, None, sym, refl, ap, ◌∙◌, subst, arith}
-use Rattle.std.proofs.lemmas.Bool.{and_parts, lt-ltb, ne_eqb}
+use Rattle.std.proofs.Common.{◌≡◌, ℕ, zero, suc, ◌+◌, ◌≤◌, Bool, true, false, cond, not, ◌||◌, eqb, ltb, List, None, sym, refl, ap, ◌∙◌, subst, arith}
+use Rattle.std.proofs.lemmas.Bool.{lt-ltb, ne_eqb}
 use Rattle.track.specs.Layouts.{sections_of}
 use Rattle.track.specs.declared.layout.Layout.{Layout}
 use Rattle.rules.specs.Conflicts.{Conflicts}
 use Rattle.scales.specs.Measure.{Measure}
 use Rattle.roster.specs.declared.roster.Roster.{Roster}
-use Rattle.roster.specs.declared.train.Train.{Train}
 use Rattle.roster.specs.Trains.{on_layout}
-use Rattle.roster.specs.Model.{held, seen, no_train, rows_of, start_at, goal_at, closed_of}
+use Rattle.roster.specs.Model.{held, seen, rows_of, start_at, goal_at, closed_of}
 use Rattle.sheets.specs.Problem.{Group, count}
-use Rattle.sheets.specs.Posing.{all_trains, marked, all_on, all_rows, question_declined}
+use Rattle.sheets.specs.Posing.{all_trains, marked, all_rows, question_declined}
 use Rattle.sheets.specs.Inquiry.{Inquiry, inquiry, problem_of}
 use Rattle.sheets.specs.declared.question.Question.{Question}
 use Rattle.sheets.proofs.Alls.{all_from}
 use Rattle.planner.specs.Promise.{setting, asked}
-
--- each train of a list on the layout is on it
-on_at : (n : ℕ) (xs : List Train) (d : Train) (r : ℕ) → on_layout n xs ≡ true → r < length xs
-    → (ltb (get_or xs r d).start n && ltb (get_or xs r d).goal n) ≡ true
-on_at n [] d r h l = absurd (omega arith)
-on_at n (x ∷ xs) d zero h l = (and_parts (ltb x.start n && ltb x.goal n) (on_layout n xs) h).0
-on_at n (x ∷ xs) d (suc r) h l = on_at n xs d r (and_parts (ltb x.start n && ltb x.goal n) (on_layout n xs) h).1 (omega arith)
-
-all_placed : (l : Layout) (o : Roster) → on_layout (sections_of l) (held o) ≡ true → all_on l o ≡ true
-unfolding all_on rows_of start_at goal_at
-all_placed l o h = all_from (length (held o)) _ (λ r i. on_at (sections_of l) (held o) no_train r h i)
 
 either : (b : Bool) → (not b || b) ≡ true
 either true = refl
@@ -48,11 +36,10 @@ pub can_be_asked : (l : Layout) (o : Roster) (marks : List Bool) (steps : ℕ)
     → question_declined l o marks steps ≡ None
 unfolding question_declined
 can_be_asked l o marks steps placed all-marked within someone =
-    let a = all_placed l o placed in
     let b = all_rows_lem o marks all-marked in
     let c : count (rows_of o) (marked marks) ≡ rows_of o = ap (count (rows_of o)) all-marked ∙ count_all (rows_of o) (rows_of o) (omega arith) in
     let d : eqb (count (rows_of o) (marked marks)) 0 ≡ false = ne_eqb _ _ (λ z. someone (sym c ∙ z)) in
-    simp (a, b, within, d)
+    simp (placed, b, within, d)
 
 -- and it asks for all trains of the book
 pub asks_the_book : {C : Type 0} (conflicts : Layout → Conflicts) (m : Measure C) (takes : Inquiry C → ℕ → Type 0) (l : Layout) (o : Roster) (marks : List Bool) (steps : ℕ) (q : Question)

@@ -1,6 +1,6 @@
 -- Trains in the order of their numbers.
 use Rattle.std.specs.Prelude.{ℕ, ◌/◌, ◌%◌, ◌^◌, Bool, true, cond, not, ◌&&◌, ◌||◌, List, [], ◌∷◌, Option, ◌==◌, nat_lt}
-use Rattle.std.specs.List.{list_any, position_from}
+use Rattle.std.specs.List.{list_all, list_any, position_from}
 use Rattle.roster.specs.declared.train.Train.{Train}
 
 abbrev pub number_of : Train → ℕ
@@ -54,8 +54,7 @@ all_open m (x ∷ xs) = runs m x && all_open m xs
 
 -- whether both sections of every train are below n
 abbrev pub on_layout : ℕ → List Train → Bool
-on_layout n [] = true
-on_layout n (x ∷ xs) = (nat_lt x.start n && nat_lt x.goal n) && on_layout n xs
+on_layout n xs = list_all (λ x. nat_lt x.start n && nat_lt x.goal n) xs
 
 -- a train at its place in the order of numbers
 abbrev pub entered : Train → List Train → List Train

@@ -17,7 +17,7 @@ module _ {C : Type 0} (S : Measure C) (L : MeasureLaws S) (Q : Problem) (K : Pro
       let k = K.steps_most in
       omega (arith, joined_size S L 16 Q.steps (step_cost S Q x r) (λ t h. L.size_price _ _ (K.points_most _ _)) (omega arith))
 
-  gated_size : (b : Bool) (x : Plan) (r : ℕ) → S.size (cond b (row_cost S Q x r) S.nothing) ≤ 256
+  pub gated_size : (b : Bool) (x : Plan) (r : ℕ) → S.size (cond b (row_cost S Q x r) S.nothing) ≤ 256
   gated_size true x r = row_size x r
   gated_size false x r = omega (arith, L.size_nothing)
 

@@ -10,3 +10,4 @@ pub mod Posed
 pub mod Agreed
 pub mod Marks
 pub mod Tables
+pub mod Rows

@@ -5,7 +5,8 @@ use Rattle.std.proofs.lemmas.Bool.{cases_lt, le-ltb, lt-ltb}
 use Rattle.std.proofs.lemmas.List.{get_or-replicate, get_or-drop, get_or_append_left, get_or-append_right, length-replicate}
 use Rattle.sheets.specs.Posing.{marked, all_trains}
 
-unset : (n i : ℕ) → get_or (replicate n false) i false ≡ false
+-- none of them is set
+pub unset : (n i : ℕ) → get_or (replicate n false) i false ≡ false
 unset zero i = refl
 unset (suc n) zero = refl
 unset (suc n) (suc i) = unset n i

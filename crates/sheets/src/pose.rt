@@ -1,29 +1,24 @@
-ghost use Rattle.std.specs.Prelude.{◌≡◌, ℕ, ◌+◌, ◌<◌, ◌≤◌, Bool, true, false, not, ◌&&◌, ◌||◌, Ok, Err, nat_lt};
-ghost use Rattle.std.specs.List.{list_all};
+ghost use Rattle.std.specs.Prelude.{◌≡◌, Ok, Err};
 ghost use Rattle.track.specs.Refusals.{refused_by};
-ghost use Rattle.roster.specs.Model.{rows_of};
+ghost use Rattle.track.specs.Layouts.{sections_of};
+ghost use Rattle.roster.specs.Trains.{on_layout};
+ghost use Rattle.roster.specs.Model.{held, rows_of};
 ghost use Rattle.sheets.specs.Problem.{count};
-ghost use Rattle.sheets.specs.Posing.{marked, all_on, all_rows, question_declined};
+ghost use Rattle.sheets.specs.Posing.{marked, all_rows, question_declined};
 
 use crate::question::Question;
 use roster::roster::Roster;
-use roster::train::Train;
 use track::layout::Layout;
 use track::refusal::Refusal;
 
-// Whether the starts and goals of all these trains are below the number of sections.
-fn all_below(trains: &[Train], sections: u8) -> bool
-    ensures whether_all_starts_and_goals_are_below { result ≡ list_all (λ t. nat_lt t.start sections && nat_lt t.goal sections) trains.now }
+fn all_on(layout: &Layout, roster: &Roster) -> bool
+    ensures whether_all_starts_and_goals_are_on_the_layout { result ≡ on_layout (sections_of layout.now) (held roster.now) }
 {
-    trains
+    let sections = layout.sections();
+    roster
+        .trains()
         .iter()
         .all(|train| train.start < sections && train.goal < sections)
-}
-
-fn all_on(layout: &Layout, roster: &Roster) -> bool
-    ensures whether_all_starts_and_goals_are_on_the_layout { result ≡ all_on layout.now roster.now }
-{
-    all_below(roster.trains(), layout.sections())
 }
 
 fn all_rows(roster: &Roster, group: [bool; 8]) -> bool

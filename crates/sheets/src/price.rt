@@ -1,15 +1,12 @@
-ghost use Rattle.std.specs.Prelude.{◌≡◌, ℕ, ◌+◌, ◌<◌, ◌≤◌, ◌&&◌, if◌then◌else◌, ◌==◌, Some, slice_index};
-ghost use Rattle.std.specs.List.{slice_get};
+ghost use Rattle.std.specs.Prelude.{◌≡◌, ◌+◌, ◌&&◌, ◌==◌, slice_index};
 ghost use Rattle.rules.specs.Conflicts.{Conflicts};
 ghost use Rattle.scales.specs.Measure.{joined};
-ghost use Rattle.roster.specs.Model.{seen};
-ghost use Rattle.sheets.specs.Plan.{cost, row_cost};
+ghost use Rattle.sheets.specs.Plan.{cost};
 ghost use Rattle.sheets.specs.Posing.{marked};
 ghost use Rattle.sheets.specs.Inquiry.{over, problem_asked, plan_of};
 
 use crate::question::Question;
 use crate::sheet::Sheet;
-use roster::train::Train;
 use rules::moves::Move;
 use scales::scale::Scale;
 use track::layout::Layout;
@@ -49,31 +46,23 @@ fn steps_cost<S: Scale>(scale: &S, question: &Question, sections: [u8; 17], goal
     total
 }
 
-// What the train of a row adds to the cost: its steps, if the row is of the question's group.
-fn row_cost<S: Scale>(
-    scale: &S,
-    question: &Question,
-    sheet: &Sheet,
-    row: usize,
-    train: Train,
-) -> S::Cost
-    requires the_train_of_the_row { slice_get (seen question.now.roster.now).trains row ≡ Some train }
-    requires of_the_sheet { row < 8 }
-    ensures its_steps_or_nothing { (k : Conflicts) → result ≡ (if marked question.now.group row then row_cost (S.Scale.measure scale.now) (problem_asked k question.now) (plan_of sheet.now) row else (S.Scale.measure scale.now).nothing) }
-{
-    if !question.group[row] {
-        return scale.nothing();
-    }
-    steps_cost(scale, question, sheet.rows[row], train.goal)
-}
-
 // What a sheet costs for the question's group.
 pub fn sheet_cost<S: Scale>(scale: &S, question: &Question, sheet: &Sheet) -> S::Cost
     ensures the_prices_of_all_steps_of_the_group_joined { (k : Conflicts) → result ≡ cost (S.Scale.measure scale.now) (problem_asked k question.now) (marked question.now.group) (plan_of sheet.now) }
 {
     let mut total = scale.nothing();
-    for (row, train) in question.roster.trains().iter().enumerate() {
-        let part = row_cost(scale, question, sheet, row, *train);
+    for ((train, member), sections) in question
+        .roster
+        .trains()
+        .iter()
+        .zip(question.marks())
+        .zip(&sheet.rows)
+    {
+        let part = if *member {
+            steps_cost(scale, question, *sections, train.goal)
+        } else {
+            scale.nothing()
+        };
         total = scale.join(total, part);
     }
     total
