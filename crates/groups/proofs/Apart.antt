@@ -1,13 +1,14 @@
 -- Best sheets of parts that do not conflict make the best sheet of the group.
 use Rattle.std.proofs.Common.{◌≡◌, ℕ, zero, suc, ◌+◌, ◌<◌, ◌≤◌, Bool, true, false, cond, ◌&&◌, ◌||◌, eqb, ltb, ◌⊎◌, sym, refl, ap, ◌∙◌, ap₂, inl, inr, ⊎_elim, true≢false, arith}
 use mathlib.Core.Bool.{false≢true}
+use Rattle.std.proofs.Math.Bool.{and_comm, or_comm}
 use Rattle.std.proofs.lemmas.Bool.{cases_order, or_cases, or_left, or_right, both_ways, and_from, and_parts, and_right, eqb-true, eq-eqb, ne_eqb, ltb-true, lt-ltb, le-ltb}
 use Rattle.scales.specs.Measure.{Measure, MeasureLaws, joined}
 use Rattle.scales.proofs.Joins.{joined_same, joined_join, nothing_join, join_lower_both}
 use Rattle.sheets.specs.Problem.{Problem, ProblemLaws, Group, Member}
 use Rattle.sheets.specs.Plan.{Plan, Lawful, SameOn, Earlier, Before, Best, Wins, clash, row_cost, cost}
 use Rattle.sheets.proofs.Places.{earlier_trans, earlier_time, places}
-use Rattle.sheets.proofs.Costs.{row_size, cost_size, cost_same}
+use Rattle.sheets.proofs.Costs.{row_size, gated_size, cost_size, cost_same}
 use Rattle.sheets.proofs.Sheets.{best_same}
 use Rattle.groups.specs.Parts.{Naming, Names, part, NoClash, assembled}
 use Rattle.groups.specs.Laws.{PartsApartAreBestTogether, APartWithoutASheetLeavesNone}
@@ -16,18 +17,6 @@ use Rattle.groups.specs.Laws.{PartsApartAreBestTogether, APartWithoutASheetLeave
 pub record Split (Q : Problem) (G A B : Group) : Type 0 where
   pub all : (r : ℕ) → r < Q.rows → G r ≡ (A r || B r)
   pub never : (r : ℕ) → r < Q.rows → (A r && B r) ≡ false
-
-or_flip : (a b : Bool) → (a || b) ≡ (b || a)
-or_flip true true = refl
-or_flip true false = refl
-or_flip false true = refl
-or_flip false false = refl
-
-and_flip : (a b : Bool) → (a && b) ≡ (b && a)
-and_flip true true = refl
-and_flip true false = refl
-and_flip false true = refl
-and_flip false false = refl
 
 module _ (Q : Problem) where
   pub lawful_sub : (G A : Group) (x : Plan) → ((r : ℕ) → Member Q A r → Member Q G r) → Lawful Q G x → Lawful Q A x
@@ -42,7 +31,7 @@ module _ (Q : Problem) where
       }
 
   split_flip : (G A B : Group) → Split Q G A B → Split Q G B A
-  split_flip G A B p = record { all = λ r h. p.all r h ∙ or_flip (A r) (B r); never = λ r h. and_flip (B r) (A r) ∙ p.never r h }
+  split_flip G A B p = record { all = λ r h. p.all r h ∙ or_comm (A r) (B r); never = λ r h. and_comm (B r) (A r) ∙ p.never r h }
 
   module _ (G A B : Group) (p : Split Q G A B) where
     pub in_left : (r : ℕ) → Member Q A r → Member Q G r
@@ -110,10 +99,6 @@ module _ (Q : Problem) where
           (λ t r m k. f.same t r m (earlier_trans t r g.time g.row f.time f.row k e))
 
 module _ {C : Type 0} (S : Measure C) (L : MeasureLaws S) (Q : Problem) (K : ProblemLaws Q) where
-  gated_size : (b : Bool) (x : Plan) (r : ℕ) → S.size (cond b (row_cost S Q x r) S.nothing) ≤ 256
-  gated_size true x r = row_size S L Q K x r
-  gated_size false x r = omega (arith, L.size_nothing)
-
   share : (a b : Bool) (w : C) → S.size w ≤ 65535 → (a && b) ≡ false
       → cond (a || b) w S.nothing ≡ S.join (cond a w S.nothing) (cond b w S.nothing)
   share true true w s e = absurd (true≢false e)
@@ -129,8 +114,8 @@ module _ {C : Type 0} (S : Measure C) (L : MeasureLaws S) (Q : Problem) (K : Pro
       joined_same S L Q.rows _ _
       (λ r h. rw (p.all r h) (share (A r) (B r) (row_cost S Q x r) (omega (arith, row_size S L Q K x r)) (p.never r h)))
       ∙ joined_join S L 256 Q.rows (λ r. cond (A r) (row_cost S Q x r) S.nothing) (λ r. cond (B r) (row_cost S Q x r) S.nothing)
-      (λ r h. gated_size (A r) x r)
-      (λ r h. gated_size (B r) x r)
+      (λ r h. gated_size S L Q K (A r) x r)
+      (λ r h. gated_size S L Q K (B r) x r)
       (omega arith)
 
   pub cost_none : (G : Group) (x : Plan) → ((r : ℕ) → r < Q.rows → G r ≡ false) → cost S Q G x ≡ S.nothing

@@ -1,6 +1,7 @@
 -- What a list of lines amounts to, worked out from the lines alone.
-use Rattle.std.specs.Prelude.{ℕ, List, [], ◌∷◌, ◌++◌, Some, None, Ok, Err, Option, Result}
+use Rattle.std.specs.Prelude.{ℕ, List, [], ◌∷◌, ◌++◌, Ok, Err, Result}
 use Rattle.track.specs.Model.{Model, blank, sections_declined, link_declined, foul_declined, widened, with_link, with_foul}
+use Rattle.track.specs.Refusals.{unless}
 use Rattle.track.specs.declared.refusal.Refusal.{Refusal}
 use Rattle.roster.specs.Book.{Call}
 use Rattle.frames.specs.Frames.{Told, read_as}
@@ -10,10 +11,6 @@ use Rattle.machine.specs.Asked.{Asked, sections, link, foul, finish, call, asked
 pub data Progress : Type 0 where
   drawing : Model → Progress
   planning : Model → List Call → Progress
-
-abbrev pub unless : Option ℕ → (new old : Model) → Model
-unless (Some k) new old = old
-unless None new old = new
 
 -- a frame on the wrong side of the finish changes nothing
 abbrev pub moved : Progress → Asked → Progress

@@ -1,7 +1,8 @@
 -- No section is closed that is not on the layout, so a question may count 32 places.
 use Rattle.std.proofs.Common.{◌≡◌, ℕ, ◌+◌, ◌-◌, ◌≤◌, Bool, true, false, cond, not, ◌&&◌, ◌||◌, eqb, leb, List, [], ◌∷◌, Some, None, Option, refl, ap, ◌∙◌, arith}
 use Rattle.std.proofs.lemmas.Bool.{ne_eqb, leb-false}
-use Rattle.roster.specs.Book.{Call, enter, withdraw, possess, give_up, ask, plan, Book, book_of, book_from, after, unless, changed, declined, empty, how_many, lowest}
+use Rattle.track.specs.Refusals.{unless}
+use Rattle.roster.specs.Book.{Call, enter, withdraw, possess, give_up, ask, plan, Book, book_of, book_from, after, changed, declined, empty, how_many, lowest}
 use Rattle.roster.proofs.Masks.{count_more, lowest_more}
 
 abbrev Within : ℕ → Book → Type 0

@@ -2,9 +2,9 @@
 use Rattle.std.proofs.Common.{◌≡◌, ℕ, suc, ◌≤◌, Bool, true, false, ◌&&◌, ◌||◌, eqb, ltb, leb, List, [], ◌∷◌, length, Some, None, Option, refl, ap, arith}
 use Rattle.std.proofs.lemmas.Bool.{cond_both, and_from, and_parts, or_parts, leb-false, lt-ltb}
 use Rattle.roster.specs.declared.train.Train.{Train}
-use Rattle.track.specs.Refusals.{met}
+use Rattle.track.specs.Refusals.{met, unless}
 use Rattle.roster.specs.Trains.{entered, without, taken, number_of, start_of, goal_of, on_layout, no_number}
-use Rattle.roster.specs.Book.{Call, enter, withdraw, possess, give_up, ask, plan, Book, book_of, book_from, after, unless, changed, empty}
+use Rattle.roster.specs.Book.{Call, enter, withdraw, possess, give_up, ask, plan, Book, book_of, book_from, after, changed, empty}
 use Rattle.roster.specs.Book.{declined as refusal}
 
 pub met_none : (k : ℕ) (t : Bool) (others : Option ℕ) → met k t others ≡ None → (t ≡ false) × (others ≡ None)

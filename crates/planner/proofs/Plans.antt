@@ -1,14 +1,13 @@
 -- What the end of a course says of the reply to a plan call.
-use Rattle.std.proofs.Common.{◌≡◌, ℕ, ◌≤◌, Bool, true, false, cond, eqb, length, Some, None, Ok, Err, Option, unwrap_or, refl, inl, inr, arith}
-use Rattle.track.specs.Layouts.{look}
+use Rattle.std.proofs.Common.{◌≡◌, ℕ, ◌≤◌, length, Ok, Err, refl, inl, inr, arith}
 use Rattle.track.specs.declared.layout.Layout.{Layout}
-use Rattle.track.proofs.Laws.{look_few}
 use Rattle.rules.specs.Conflicts.{Conflicts, RuleLaws}
 use Rattle.scales.specs.Measure.{Measure, MeasureLaws}
 use Rattle.roster.specs.Book.{Book}
 use Rattle.sheets.specs.Problem.{ProblemLaws}
 use Rattle.sheets.specs.Inquiry.{Inquiry, plan_of}
 use Rattle.sheets.specs.declared.sheet.Sheet.{Sheet}
+use Rattle.sheets.proofs.Posed.{over_few}
 use Rattle.sheets.proofs.Sheets.{best_same}
 use Rattle.search.specs.declared.answer.Unplanned.TheVariants.{BeyondReach, NoSheet}
 use Rattle.groups.specs.Course.{Outcome, beyond, none, found}
@@ -19,18 +18,10 @@ use Rattle.grouping.specs.Ends.{Told, about}
 use Rattle.sheets.specs.Posing.{all_trains}
 use Rattle.planner.specs.Promise.{Setting, setting, Reply, declined, planned, problem, asked, GroupingEnds, PlanAnswered}
 
-few : (l : Layout) (a b : ℕ) (o : Option ℕ) → look l a b ≡ o → unwrap_or o 0 ≤ 7
-few l a b None e = omega arith
-few l a b (Some p) e = look_few l a b p e
-
-few_points : (l : Layout) (a b : ℕ) (t : Bool) → cond t 0 (unwrap_or (look l a b) 0) ≤ 7
-few_points l a b true = omega arith
-few_points l a b false = few l a b (look l a b) refl
-
 pub problem_laws : {C : Type 0} (l : Layout) (conflicts : Conflicts) (m : Measure C) (takes : Inquiry C → ℕ → Type 0) (b : Book) (steps : ℕ)
     → RuleLaws conflicts → length b.trains ≤ 8 → steps ≤ 16 → ProblemLaws (problem (setting l conflicts m takes) b steps)
 problem_laws l conflicts m takes b steps rule r s =
-    record { rows_most = r; steps_most = s; points_most = λ x y. few_points l x y (eqb x y); rule = rule }
+    record { rows_most = r; steps_most = s; points_most = over_few l; rule = rule }
 
 not_declined : {C : Type 0} (c : C) (n k : ℕ) → planned c n ≡ declined k → ⊥
 not_declined c n k e = let z : ◌≡◌ {A = ℕ} 0 1 = cc in omega arith

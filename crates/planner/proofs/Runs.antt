@@ -1,14 +1,14 @@
 -- One call more: its reply is kept, and the planner that it leaves stands.
 use Rattle.std.proofs.Common.{◌≡◌, ℕ, ◌≤◌, true, ◌⊎◌, List, [], ◌∷◌, ◌++◌, length, Some, None, Ok, Err, Option, Result, sym, refl, ap, ◌∙◌, subst, inl, inr, append_assoc, append-nil}
 use Rattle.track.specs.Layouts.{sections_of}
-use Rattle.track.specs.Refusals.{granted, refused_by}
+use Rattle.track.specs.Refusals.{granted, refused_by, unless}
 use Rattle.track.specs.declared.layout.Layout.{Layout}
 use Rattle.track.specs.declared.refusal.Refusal.{Refusal}
 use Rattle.track.proofs.Laws.{sections_most}
 use Rattle.rules.specs.Conflicts.{Conflicts}
 use Rattle.scales.specs.Measure.{Measure}
 use Rattle.roster.specs.declared.roster.Roster.{Roster}
-use Rattle.roster.specs.Book.{Call, plan, ask, how_many, lowest, Book, book_of, book_from, after, unless, changed, empty}
+use Rattle.roster.specs.Book.{Call, plan, ask, how_many, lowest, Book, book_of, book_from, after, changed, empty}
 use Rattle.roster.specs.Book.{declined as refusal}
 use Rattle.roster.specs.Model.{seen, held}
 use Rattle.roster.specs.Trains.{on_layout}

@@ -1,7 +1,8 @@
 -- The book: what a list of calls amounts to, worked out from the number of sections of the layout and from the arguments alone.
 use Rattle.std.specs.Prelude.{ℕ, zero, suc, ◌+◌, ◌*◌, Bool, false, cond, not, ◌&&◌, ◌||◌, List, [], ◌∷◌, length, Some, None, Option, ◌==◌, nat_le, nat_lt}
+use Rattle.std.specs.Option.{option_or}
 use Rattle.roster.specs.declared.train.Train.{Train}
-use Rattle.track.specs.Refusals.{met}
+use Rattle.track.specs.Refusals.{met, unless}
 use Rattle.roster.specs.Trains.{no_number, number_of, start_of, goal_of, taken, entered, without}
 
 -- the calls that a planner gets: a train is entered or withdrawn; a section is closed (taken into possession) or opened again (given up);
@@ -57,10 +58,6 @@ changed b (give_up s) = record { trains = b.trains; closed = λ k. not (k == s) 
 changed b ask = b
 changed b (plan steps cells) = b
 
-abbrev pub unless : Option ℕ → Book → Book → Book
-unless (Some k) new old = old
-unless None new old = new
-
 -- the book after a call
 abbrev pub after : ℕ → Book → Call → Book
 after n b c = unless (declined n b c) (changed b c) b
@@ -77,15 +74,10 @@ book_of n cs = book_from n empty cs
 abbrev pub entry_of : Train → Call
 entry_of t = enter t.number t.start t.goal
 
--- the first of two refusals
-abbrev pub or_else : Option ℕ → Option ℕ → Option ℕ
-or_else (Some k) other = Some k
-or_else None other = other
-
 -- trains entered one after the other: the number of the first refusal, if there is one
 abbrev pub first_declined : ℕ → Book → List Train → Option ℕ
 first_declined n b [] = None
-first_declined n b (t ∷ ts) = or_else (declined n b (entry_of t)) (first_declined n (after n b (entry_of t)) ts)
+first_declined n b (t ∷ ts) = option_or (declined n b (entry_of t)) (first_declined n (after n b (entry_of t)) ts)
 
 -- and the book after the last
 abbrev pub entered_all : ℕ → Book → List Train → Book
@@ -99,4 +91,4 @@ how_many (suc n) f = how_many n f + cond (f n) 1 0
 
 unfoldable pub lowest : ℕ → (ℕ → Bool) → Option ℕ
 lowest zero f = None
-lowest (suc n) f = or_else (lowest n f) (cond (f n) (Some n) None)
+lowest (suc n) f = option_or (lowest n f) (cond (f n) (Some n) None)

@@ -35,6 +35,7 @@ impl Scale for StepsThenPoints {
     }
 
     fn price(&self, points: u8, rests: bool) -> Pair {
+        // `Steps` begins alike: only the test is common, as each scale has its own number for a step.
         if rests {
             return self.nothing();
         }

@@ -1,6 +1,6 @@
 -- The marks after so many steps outward are those of the sections in reach in so many steps.
 use Rattle.std.proofs.Common.{◌≡◌, ℕ, ◌+◌, ◌<◌, ◌≤◌, Bool, true, false, eqb, List, get_or, set, replicate, is_some, Some, sym, subst, ⊎_elim, arith}
-use Rattle.std.proofs.lemmas.List.{length-replicate, get_or-replicate, get_or_past, get_or-set_same}
+use Rattle.std.proofs.lemmas.List.{get_or-set_same}
 use Rattle.std.proofs.lemmas.Bool.{cases_lt, both_ways, or_cases, or_right, eqb-true}
 use Rattle.track.specs.Layouts.{look}
 use Rattle.track.specs.declared.layout.Layout.{Layout}
@@ -8,6 +8,7 @@ use Rattle.rules.specs.Conflicts.{Conflicts}
 use Rattle.roster.specs.declared.roster.Roster.{Roster}
 use Rattle.sheets.specs.Problem.{Problem}
 use Rattle.sheets.specs.Inquiry.{problem_of}
+use Rattle.sheets.proofs.Marks.{unset}
 use Rattle.single_check.specs.Ways.{Reaches, FewestBetween}
 use Rattle.single_check.specs.Marks.{OnwardFrom, Widened}
 use Rattle.single_check.proofs.Marking.{linked_inside, set_only}
@@ -23,12 +24,9 @@ pub record Sofar (Q : Problem) (k a b : ℕ) (m : List Bool) : Type 0 where
   pub marks : Marks Q k a m
   pub none : (j : ℕ) → j < k → Reaches Q j a b → ⊥
 
-blank : (b : ℕ) → get_or (replicate 32 false) b false ≡ false
-blank b = ⊎_elim (λ h. get_or-replicate 32 b false false h) (λ h. get_or_past (replicate 32 false) b false (omega (arith, h, length-replicate 32 false))) (cases_lt b 32)
-
 pub marks_none : (Q : Problem) (a : ℕ) → a < 32 → a < Q.sections → Q.closed a ≡ false → Marks Q 0 a (set (replicate 32 false) a true)
 marks_none Q a few inside unclosed = record {
-  reached = λ b h. ⊎_elim (λ e. absurd (both_ways (get_or (replicate 32 false) b false) (blank b) e)) (λ e. subst (λ z. Reaches Q 0 a z) (sym e) (reaches_none Q a inside unclosed)) (set_only (replicate 32 false) a b h);
+  reached = λ b h. ⊎_elim (λ e. absurd (both_ways (get_or (replicate 32 false) b false) (unset 32 b) e)) (λ e. subst (λ z. Reaches Q 0 a z) (sym e) (reaches_none Q a inside unclosed)) (set_only (replicate 32 false) a b h);
   marked = λ b r. subst (λ z. get_or (set (replicate 32 false) a true) z false ≡ true) (sym (reaches_same Q a b r)) (get_or-set_same (replicate 32 false) a true false few);
 }
 

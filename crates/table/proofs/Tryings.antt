@@ -1,4 +1,5 @@
 -- The first of the least of the sections tried.
+use Rattle.std.proofs.lemmas.Option.{none-some}
 use Rattle.std.proofs.Common.{◌≡◌, ℕ, ◌<◌, Bool, true, false, ◌⊎◌, List, length, get_or, Some, None, Option, sym, refl, ap, ◌∙◌, inl, inr, ⊎_elim, arith}
 use Rattle.std.proofs.lemmas.Bool.{cases_order, cases_Bool}
 use Rattle.std.specs.Option.{option_map}
@@ -6,7 +7,7 @@ use Rattle.scales.specs.Measure.{Measure, MeasureLaws}
 use Rattle.scales.specs.Runs.{FirstLeast}
 use Rattle.scales.proofs.Joins.{lower_not, lower_asym}
 use Rattle.words.specs.Words.{FirstOf, Firstly, least, first}
-use Rattle.words.proofs.Least.{some≢none, firstly}
+use Rattle.words.proofs.Least.{firstly}
 use Rattle.table.specs.Candidates.{Candidates}
 use Rattle.table.specs.Steps.{MovesTo}
 use Rattle.table.specs.declared.pick.Pick.{Pick}
@@ -32,8 +33,8 @@ module _ {C : Type 0} (S : Measure C) (L : MeasureLaws S) (n : ℕ) (f : ℕ →
 
   pub firstly_cost : (o p : Option C) (x y : ℕ) → Firstly S n f o x → Firstly S n f p y → o ≡ p
   firstly_cost None None x y F G = refl
-  firstly_cost None (Some d) x y F G = absurd (some≢none d (sym G.here ∙ F y G.within))
-  firstly_cost (Some c) None x y F G = absurd (some≢none c (sym F.here ∙ G x F.within))
+  firstly_cost None (Some d) x y F G = absurd (none-some d (sym (F y G.within) ∙ G.here))
+  firstly_cost (Some c) None x y F G = absurd (none-some c (sym (G x F.within) ∙ F.here))
   firstly_cost (Some c) (Some d) x y F G = sym F.here ∙ ap f (one_place c d x y F G) ∙ G.here
 
   pub firstly_place : (c d : C) (x y : ℕ) → FirstOf S n f c x → FirstOf S n f d y → x ≡ y
@@ -47,7 +48,7 @@ module _ {C : Type 0} (S : Measure C) (L : MeasureLaws S) (n : ℕ) (reach : ℕ
 
   -- a section that has a cost is among those tried
   tried : (x : ℕ) (d : C) → x < n → f x ≡ Some d → (i : ℕ) × (i < length xs) × (get_or xs i 0 ≡ x)
-  tried x d h e = T.every x h (⊎_elim (λ o. o) (λ o. absurd (some≢none d (sym e ∙ shut x o))) (cases_Bool (reach x)))
+  tried x d h e = T.every x h (⊎_elim (λ o. o) (λ o. absurd (none-some d (sym (shut x o) ∙ e))) (cases_Bool (reach x)))
 
   abbrev section_of : Option (ℕ × C) → ℕ
   section_of None = 0
@@ -67,7 +68,7 @@ module _ {C : Type 0} (S : Measure C) (L : MeasureLaws S) (n : ℕ) (reach : ℕ
     where
       none : (x : ℕ) → x < n → (o : Option C) → f x ≡ o → f x ≡ None
       none x h None e = e
-      none x h (Some d) e = let w = tried x d h e in absurd (some≢none d (sym (ap f w.2 ∙ e) ∙ F w.0 w.1))
+      none x h (Some d) e = let w = tried x d h e in absurd (none-some d (sym (F w.0 w.1) ∙ (ap f w.2 ∙ e)))
   among (Some p) F = record {
     within = T.inside p.0 F.within;
     here = F.here;
@@ -85,7 +86,7 @@ module _ {C : Type 0} (S : Measure C) (L : MeasureLaws S) (n : ℕ) (reach : ℕ
 
   moves_is : (r : Option (ℕ × C)) (o : Option C) (x : ℕ) → Firstly S n f (cost_of r) (section_of r) → Firstly S n f o x → MovesTo (pick_at xs r) x
   moves_is None o x F G = tt
-  moves_is (Some p) None x F G = absurd (some≢none p.1 (sym F.here ∙ G (get_or xs p.0 0) F.within))
+  moves_is (Some p) None x F G = absurd (none-some p.1 (sym (G (get_or xs p.0 0) F.within) ∙ F.here))
   moves_is (Some p) (Some c) x F G = firstly_place S L n f p.1 c _ x F G
 
   pub tried_cost : (r : Option (ℕ × C)) → FirstLeast S (length xs) run r → option_map (λ p. p.cost) (pick_at xs r) ≡ least S n f

@@ -79,3 +79,8 @@ refused_by (Err e) = Some (number_of e)
 abbrev pub granted : {A B : Type 0} → Result A Refusal → B → B → B
 granted (Ok a) new old = new
 granted (Err e) new old = old
+
+-- the first where no reason declined the call, otherwise the second
+abbrev pub unless : {A : Type 0} → Option ℕ → (new old : A) → A
+unless (Some k) new old = old
+unless None new old = new

@@ -1,9 +1,10 @@
 -- A running best under a bound: what is kept, and what it is the best of.
+use Rattle.std.proofs.lemmas.Option.{none-some}
 use Rattle.std.proofs.Common.{◌≡◌, ℕ, ◌+◌, ◌≤◌, Bool, true, false, cond, Some, None, Option, sym, refl, ap, ◌∙◌, subst, inl, inr, ⊎_elim, true≢false, arith}
 use Rattle.std.proofs.lemmas.Bool.{cases_Bool, both_ways, not-true}
 use Rattle.scales.specs.Measure.{Measure, MeasureLaws}
 use Rattle.words.specs.Words.{under, with}
-use Rattle.words.proofs.Least.{some≢none, NoHigher, no_higher, lower_no_higher, no_higher_trans, join_right, join_right_no_higher}
+use Rattle.words.proofs.Least.{NoHigher, no_higher, lower_no_higher, no_higher_trans, join_right, join_right_no_higher}
 use Rattle.std.specs.Option.{option_or}
 use Rattle.walk.specs.Walks.{cut, spent_up}
 
@@ -80,17 +81,17 @@ module _ {C : Type 0} (S : Measure C) (L : MeasureLaws S) where
 
   kept : (t : Bool) (n c : C) → cond t (Some n) None ≡ Some c → t ≡ true
   kept true n c e = refl
-  kept false n c e = absurd (some≢none c (sym e))
+  kept false n c e = absurd (none-some c e)
 
   left_out : (t : Bool) (n : C) → cond t (Some n) None ≡ None → t ≡ false
-  left_out true n e = absurd (some≢none n e)
+  left_out true n e = absurd (none-some n (sym e))
   left_out false n e = refl
 
   -- what is found is lower than the old one
   pub found_lower : (b A N : Option C) (c : C) → cut S (option_or (cut S b A) b) N ≡ Some c → under S A N ≡ true
   found_lower b None (Some n) c e = refl
-  found_lower b None None c e = absurd (some≢none c (sym e ∙ cut_none _))
-  found_lower b (Some a) None c e = absurd (some≢none c (sym e ∙ cut_none _))
+  found_lower b None None c e = absurd (none-some c (sym (cut_none _) ∙ e))
+  found_lower b (Some a) None c e = absurd (none-some c (sym (cut_none _) ∙ e))
   found_lower None (Some a) (Some n) c e = kept (S.lower n a) n c e
   found_lower (Some b) (Some a) (Some n) c e =
       of_cond b a n (S.lower a b) (S.lower n a) (S.lower n b) (sym (under_else b a n (S.lower a b)) ∙ kept _ n c e)
@@ -98,7 +99,7 @@ module _ {C : Type 0} (S : Measure C) (L : MeasureLaws S) where
 
   -- where nothing is found, the old one stays the least
   pub none_lower : (b A N : Option C) (c : C) → cut S (option_or (cut S b A) b) N ≡ None → cut S b A ≡ Some c → under S A N ≡ false
-  none_lower b None N c e k = absurd (some≢none c (sym k ∙ cut_none b))
+  none_lower b None N c e k = absurd (none-some c (sym (cut_none b) ∙ k))
   none_lower b (Some a) None c e k = refl
   none_lower None (Some a) (Some n) c e k = left_out (S.lower n a) n e
   none_lower (Some b) (Some a) (Some n) c e k = ap (λ t. cond t (S.lower n a) (S.lower n b)) (sym (kept (S.lower a b) a c k)) ∙ sym (under_else b a n (S.lower a b)) ∙ left_out _ n e

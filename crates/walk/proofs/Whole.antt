@@ -9,7 +9,7 @@ use Rattle.words.specs.Joint.{Task, process}
 use Rattle.words.specs.Tasks.{task, begin, Solution}
 use Rattle.words.specs.declared.group.Group.{Group}
 use Rattle.words.specs.declared.found.Found.{Found}
-use Rattle.words.proofs.Prices.{over_few}
+use Rattle.sheets.proofs.Posed.{over_few}
 use Rattle.words.specs.Turns.{begun, todo, joint}
 use Rattle.words.proofs.Turns.{todo_begun, joint_begun}
 use Rattle.walk.specs.Walks.{cut, Ready, Walked}

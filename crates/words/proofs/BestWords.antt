@@ -1,16 +1,17 @@
 -- The best word: each choice is the first of the least, and what follows is best from there.
+use Rattle.std.proofs.lemmas.Option.{none-some, same_Some}
 use Rattle.std.proofs.Common.{◌≡◌, ℕ, zero, suc, ◌*◌, ◌<◌, ◌≤◌, Bool, true, false, cond, List, [], ◌∷◌, Some, None, Option, sym, refl, ap, ◌∙◌, subst, inl, inr, ⊎_elim, arith}
 use Rattle.std.proofs.lemmas.Bool.{cases_order}
 use Rattle.scales.specs.Measure.{Measure, MeasureLaws}
 use Rattle.words.specs.Words.{Process, Run, spent, Beats, BestWord, Answers, FirstOf, Firstly, least, first, with, rest, best, choice}
-use Rattle.words.proofs.Least.{some≢none, some_same, NoHigher, lower_no_higher, no_higher_trans, join_right, join_right_no_higher, firstly}
+use Rattle.words.proofs.Least.{NoHigher, lower_no_higher, no_higher_trans, join_right, join_right_no_higher, firstly}
 
 -- what a choice that can be made is
 pub choice_some : {C : Type 0} (S : Measure C) (b : Bool) (a : C) (o : Option C) (c : C) → cond b (with S a o) None ≡ Some c
     → (b ≡ true) × ((d : C) × (o ≡ Some d) × (S.join a d ≡ c))
-choice_some S true a None c e = absurd (some≢none c (sym e))
-choice_some S true a (Some d) c e = (refl, (d, refl, some_same e))
-choice_some S false a o c e = absurd (some≢none c (sym e))
+choice_some S true a None c e = absurd (none-some c e)
+choice_some S true a (Some d) c e = (refl, (d, refl, same_Some _ _ e))
+choice_some S false a o c e = absurd (none-some c e)
 
 pub choice_at : {C : Type 0} (S : Measure C) (b : Bool) (a : C) (o : Option C) (d : C) → b ≡ true → o ≡ Some d
     → cond b (with S a o) None ≡ Some (S.join a d)
@@ -91,24 +92,24 @@ module _ {St C : Type 0} (S : Measure C) (L : MeasureLaws S) (G : Process St C) 
     none F (y ∷ v) r =
         let there = after_y y v r.2 (rest S G m (G.after s y)) refl in
         let chy = choice_at S (G.may s y) (G.price s y) (rest S G m (G.after s y)) there.0 r.1 there.1 in
-        some≢none _ (sym chy ∙ F y r.0)
+        none-some _ (sym (F y r.0) ∙ chy)
 
     -- the least over the choices answers for one choice more
     bellman : (o : Option C) (x : ℕ) → Firstly S G.width (choice S G m s) o x
         → ((c : C) → o ≡ Some c → BestWord S G (suc m) s (x ∷ best S G m (G.after s x)) c)
         × (o ≡ None → (v : List ℕ) → Run G (suc m) s v → ⊥)
-    bellman None x F = ((λ c e. absurd (some≢none c (sym e))), λ e. none F)
-    bellman (Some a) x F = ((λ c e. subst (BestWord S G (suc m) s (x ∷ best S G m (G.after s x))) (some_same e) (found a x F)), λ e. absurd (some≢none a e))
+    bellman None x F = ((λ c e. absurd (none-some c e)), λ e. none F)
+    bellman (Some a) x F = ((λ c e. subst (BestWord S G (suc m) s (x ∷ best S G m (G.after s x))) (same_Some _ _ e) (found a x F)), λ e. absurd (none-some a (sym e)))
 
   ends : (s : St) (b : Bool) → G.done s ≡ b
       → ((c : C) → cond b (Some S.nothing) None ≡ Some c → BestWord S G zero s [] c)
       × (cond b (Some S.nothing) None ≡ None → (v : List ℕ) → Run G zero s v → ⊥)
-  ends s true e = ((λ c f. record { runs = e; costs = some_same f; beats = only }), λ f. absurd (some≢none S.nothing f))
+  ends s true e = ((λ c f. record { runs = e; costs = same_Some _ _ f; beats = only }), λ f. absurd (none-some S.nothing (sym f)))
     where
       only : (v : List ℕ) → Run G zero s v → Beats S G s [] v
       only [] r = inl refl
       only (x ∷ v) r = absurd r
-  ends s false e = ((λ c f. absurd (some≢none c (sym f))), λ f. never)
+  ends s false e = ((λ c f. absurd (none-some c f)), λ f. never)
     where
       never : (v : List ℕ) → Run G zero s v → ⊥
       never [] r = let z : true ≡ false = sym r ∙ e in (let q : ◌≡◌ {A = ℕ} 0 1 = cc in omega arith)

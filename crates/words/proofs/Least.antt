@@ -1,14 +1,9 @@
 -- The first of the least.
+use Rattle.std.proofs.lemmas.Option.{none-some, same_Some}
 use Rattle.std.proofs.Common.{◌≡◌, ℕ, zero, suc, ◌+◌, ◌<◌, ◌≤◌, Bool, true, false, cond, ◌⊎◌, Some, None, Option, sym, refl, ap, ◌∙◌, subst, inl, inr, ⊎_elim, arith}
 use Rattle.std.proofs.lemmas.Bool.{cases_lt, both_ways}
 use Rattle.scales.specs.Measure.{Measure, MeasureLaws}
 use Rattle.words.specs.Words.{FirstOf, Firstly, least, first, under}
-
-pub some≢none : {C : Type 0} (c : C) → Some c ≡ None → ⊥
-some≢none c e = let z : ◌≡◌ {A = ℕ} 0 1 = cc in omega arith
-
-pub some_same : {C : Type 0} {a b : C} → Some a ≡ Some b → a ≡ b
-some_same e = cc
 
 pub below_suc : (P : ℕ → Type 0) (n : ℕ) → ((y : ℕ) → y < n → P y) → P n → (y : ℕ) → y < suc n → P y
 below_suc P n h p y k = ⊎_elim (λ l. h y l) (λ l. subst P (omega arith) p) (cases_lt y n)
@@ -56,19 +51,19 @@ module _ {C : Type 0} (S : Measure C) (L : MeasureLaws S) where
           within = omega arith;
           here = e;
           early = h;
-          every = λ y d k. below_suc (λ z. (d : C) → f z ≡ Some d → NoHigher b d) n (λ z l d g. inr (h z d l g)) (λ d g. inl (some_same (sym e ∙ g))) y k d;
+          every = λ y d k. below_suc (λ z. (d : C) → f z ≡ Some d → NoHigher b d) n (λ z l d g. inr (h z d l g)) (λ d g. inl (same_Some _ _ (sym e ∙ g))) y k d;
         }
 
     pick : (a b : C) (x : ℕ) (l : Bool) → S.lower b a ≡ l → FirstOf S n f a x → f n ≡ Some b
         → Firstly S (suc n) f (cond l (Some b) (Some a)) (cond l n x)
     pick a b x true e F g = take_new b g (λ y d k h. lower_no_higher b a d e (F.every y d k h))
-    pick a b x false e F g = keep a x F (λ d h. rw (some_same (sym h ∙ g)) (no_higher a b e))
+    pick a b x false e F g = keep a x F (λ d h. rw (same_Some _ _ (sym h ∙ g)) (no_higher a b e))
 
     pub firstly_step : (o q : Option C) (x : ℕ) → Firstly S n f o x → f n ≡ q
         → Firstly S (suc n) f (cond (under S o q) q o) (cond (under S o q) n x)
     firstly_step None None x F g = below_suc (λ z. f z ≡ None) n F g
-    firstly_step None (Some b) x F g = take_new b g (λ y d k h. absurd (some≢none d (sym h ∙ F y k)))
-    firstly_step (Some a) None x F g = keep a x F (λ d h. absurd (some≢none d (sym h ∙ g)))
+    firstly_step None (Some b) x F g = take_new b g (λ y d k h. absurd (none-some d (sym (F y k) ∙ h)))
+    firstly_step (Some a) None x F g = keep a x F (λ d h. absurd (none-some d (sym g ∙ h)))
     firstly_step (Some a) (Some b) x F g = pick a b x (S.lower b a) refl F g
 
   pub firstly : (n : ℕ) (f : ℕ → Option C) → Firstly S n f (least S n f) (first S n f)

@@ -1,5 +1,6 @@
 -- Each word of the right length is the word of a sheet.
 use Rattle.std.proofs.Common.{◌≡◌, ℕ, zero, suc, ◌+◌, ◌*◌, ◌<◌, ◌≤◌, List, [], ◌∷◌, ◌++◌, length, get_or, drop, sym, refl, ap, ◌∙◌, ap₂, mul-le-mul, mul-suc, add-one, arith, drop-cons}
+use Rattle.std.proofs.lemmas.List.{drop_all}
 use Rattle.sheets.specs.Plan.{Plan}
 use Rattle.words.specs.Words.{Process, Run}
 use Rattle.words.specs.Bridge.{row_word, sheet_word}
@@ -15,12 +16,6 @@ abbrev pub sheet_of : (ℕ → ℕ) → (place : ℕ → ℕ) (k : ℕ) (v : Lis
 sheet_of start place k v r zero = start r
 sheet_of start place k v r (suc t) = get_or v (k * t + place r) 0
 
-drop_end : (v : List ℕ) (n : ℕ) → length v ≤ n → drop n v ≡ []
-drop_end [] zero h = refl
-drop_end [] (suc n) h = refl
-drop_end (x ∷ v) zero h = absurd (omega arith)
-drop_end (x ∷ v) (suc n) h = drop_end v n (omega arith)
-
 row_read : (v : List ℕ) (f : ℕ → ℕ) (base k : ℕ) → ((i : ℕ) → i < k → f i ≡ get_or v (base + i) 0) → base + k ≤ length v → (d j : ℕ) → j + d ≡ k
     → row_word f j d ++ drop (base + k) v ≡ drop (base + j) v
 row_read v f base k h l zero j e = let q : base + k ≡ base + j = omega arith in ap (λ n. drop n v) q
@@ -31,7 +26,7 @@ row_read v f base k h l (suc d) j e =
 
 pub sheet_read : (v : List ℕ) (x : Plan) (k n : ℕ) → ((t i : ℕ) → t < n → i < k → x i (t + 1) ≡ get_or v (k * t + i) 0) → length v ≡ k * n
     → (l t : ℕ) → t + l ≡ n → sheet_word x k t l ≡ drop (k * t) v
-sheet_read v x k n h len zero t e = let q : t ≡ n = omega arith in sym (drop_end v (k * t) (let z : k * t ≡ k * n = ap (λ u. k * u) q in omega arith))
+sheet_read v x k n h len zero t e = let q : t ≡ n = omega arith in sym (drop_all (k * t) v (let z : k * t ≡ k * n = ap (λ u. k * u) q in omega arith))
 sheet_read v x k n h len (suc l) t e =
     let ih = sheet_read v x k n h len l (t + 1) (omega arith) in
     let q : k * (t + 1) ≡ k * t + k = (let a = mul-suc k t in let b : k * (t + 1) ≡ k * suc t = ap (λ u. k * u) (add-one t) in omega arith) in

@@ -5,9 +5,9 @@ use Rattle.roster.specs.Model.{closed_of}
 use Rattle.roster.proofs.Digits.{has_past}
 use Rattle.roster.proofs.roster.Roster.is_closed.Goals as goal
 
-pub returns-then-section-lt32 : goal.returns-then-section-lt32
+pub returns-then-section-lt32-clause-whether_it_is_closed : goal.returns-then-section-lt32-clause-whether_it_is_closed
 unfolding closed_of
-returns-then-section-lt32 c = record { whether_the_book_has_it_closed = c.has.ensures.whether_the_bit_is_set; whether_it_is_closed = c.has.ensures.whether_the_bit_is_set }
+returns-then-section-lt32-clause-whether_it_is_closed c = c.has.ensures.whether_the_bit_is_set
 
 pub returns-else-section-lt32 : goal.returns-else-section-lt32
 unfolding closed_of
