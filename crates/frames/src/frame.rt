@@ -1,6 +1,8 @@
 use crate::part::Part;
 
 // What a line asks for, with the part of the line that has its fields.
+// Each case holds its part, so that a match has the fields where it has the kind: with a struct of kind and part,
+// the machine's match of phase and kind would take both apart first, and be no plainer.
 #[derive(Clone, Copy, PartialEq, Eq, Debug)]
 pub enum Frame<'a> {
     // 01 k: adds k sections

@@ -58,7 +58,8 @@ fn write_trains(roster: &Roster, sheet: &Sheet, steps: usize, out: &mut [u8])
     }
 }
 
-// Prints why a frame was declined.
+// Prints why a frame was declined, into a place that is lent, and tells the length: printing asks for no memory, so nothing of it
+// can fail but for a place that is too short.
 pub fn print_refusal(refusal: &Refusal, out: &mut [u8]) -> Result<usize, Refusal>
     ensures its_length_or_30_if_it_does_not_fit { result ≡ printing out.old (text (refusal_lines refusal.now)) }
     ensures just_the_text_or_nothing_is_written { out.new ≡ printed out.old (text (refusal_lines refusal.now)) }

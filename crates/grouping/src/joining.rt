@@ -93,6 +93,7 @@ fn join_conflicting<S: Scale, R: Rule, Q: Search<S>>(
 }
 
 // Follows the course of the grouping on a sheet of its own, and writes the sheet only where one is found.
+// Apart from `plan`, whose further clauses are then proved once, and not at each way out of the course.
 pub(crate) fn follow<S: Scale, R: Rule, Q: Search<S>>(
     below: &mut Q,
     asked: &Asked<R, S>,

@@ -19,6 +19,7 @@ fn lower_of<S: Scale>(
 }
 
 // The place and the cost of the first of the least of a run of cells; nothing where all are empty.
+// A loop: `min_by` asks for an `Ordering`, and a scale says only which of two is lower.
 pub fn first_least<S: Scale>(scale: &S, run: &[Option<S::Cost>]) -> Option<(usize, S::Cost)>
     ensures the_first_of_the_least { FirstLeast (S.Scale.measure scale.now) (length run.now) (λ i. slice_index_or run.now i None) result }
 {

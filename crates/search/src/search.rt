@@ -15,6 +15,7 @@ pub trait Search<S: Scale> {
 
     // Asks for the best sheet of the question's group under the rule, and writes it into the group's rows.
     // Cells and sheet stay apart from what is asked: they are lent to be written, and what is asked is only read.
+    // A struct of both would be taken apart in each search, which lends a part of the cells and hands on another sheet.
     fn search<R: Rule>(
         &mut self,
         asked: &Asked<R, S>,

@@ -9,6 +9,7 @@ use words::rests::Rests;
 pub mod asking;
 
 // What a group is searched on, with costs of the rest that are known for up to `most` steps left.
+// Measure and task stand side by side in each clause of this crate, for the reason that stands in `step`.
 #[derive(Drop)]
 pub(crate) struct Ahead<'a, 'b, S: Scale, R: Rule, N: Rests<S::Cost>> {
     pub(crate) group: &'a Group<'b, S, R>,

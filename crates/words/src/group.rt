@@ -12,6 +12,7 @@ pub mod make;
 
 // What is asked of a question's group: the board of its trains, the rows that they have, where they start, and in how many steps they are to go.
 // Every group has 1 to 8 trains, which start on the layout, and 1 to 16 steps.
+// It has no `Chosen` for a field: the board has the trains and their goals, and they would stand twice.
 #[derive(Drop)]
 pub struct Group<'a, S, R> {
     pub question: &'a Question<'a, 'a>,

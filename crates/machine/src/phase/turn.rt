@@ -17,6 +17,7 @@ use track::refusal::Refusal;
 
 impl<R: Rule, S: Scale, Q: Search<S>> Phase<R, S, Q> {
     // Does what a frame asks for, before the finish at the drawing, after it at the planner. A frame on the wrong side of the finish is declined.
+    // Clauses name the meaning of a planner each time, for the reason that stands at `Planner`.
     #[tactic(auto, using(crate::proofs::Turning::no_steps))]
     pub(crate) fn turn(
         self,

@@ -51,7 +51,7 @@ impl Roster {
         ensures how_many_are_closed { result.0 ≡ how_many 32 (seen self.now).closed }
         ensures the_lowest_that_is_closed { result.1 ≡ lowest 32 (seen self.now).closed }
     {
-        // `as` is proved to lose nothing here.
+        // `as` is proved to lose nothing here: `u8::try_from` with an `unwrap` would say no more
         (
             self.closed.count_ones(),
             (self.closed != 0).then_some(self.closed.trailing_zeros() as u8),

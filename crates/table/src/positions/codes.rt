@@ -10,7 +10,7 @@ impl<'a, S, R> Positions<'a, S, R> {
     pub(crate) fn of(group: &'a Group<'a, S, R>) -> Positions<'a, S, R>
         ensures of_the_group { result.group.now ≡ group.now }
     {
-        // the cast loses nothing: a group has at most 8 trains
+        // the cast loses nothing, a group has at most 8 trains: `u32::try_from` with an `unwrap` would say no more
         let trains = group.board.trains as u32;
         Positions {
             group,
@@ -29,7 +29,7 @@ impl<'a, S, R> Positions<'a, S, R> {
         let mut left = code;
         // by the place: after a loop over `iter_mut().rev()` a proof knows no digit that it wrote
         for i in (0..self.group.board.trains).rev() {
-            // the cast loses nothing: a layout has at most 32 sections
+            // the cast loses nothing, a layout has at most 32 sections: `u8::try_from` with an `unwrap` would say no more
             at[i] = (left % sections) as u8;
             left /= sections;
         }

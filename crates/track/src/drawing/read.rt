@@ -27,7 +27,8 @@ impl Drawing {
         &self.fouls[..self.foul_count]
     }
 
-    // Whether there is a link between `a` and `b`, from whichever end.
+    // Whether there is a link between `a` and `b`, from whichever end. Both ways are looked up, though each answers the same today:
+    // where links had a direction, the lookup alone would change.
     pub(crate) fn has_link(&self, a: u8, b: u8) -> bool
         ensures whether_there_is_such_a_link { result ≡ linked_either (drawn self.now).links a b }
     {

@@ -51,14 +51,16 @@ fn way_to(points: &[Option<u8>; 32], b: u8) -> Option<u8>
     *points.get(usize::from(b))?
 }
 
-// The points on the way from `a` to each section. `as` is proved to lose nothing here.
+// The points on the way from `a` to each section. `as` is proved to lose nothing here:
+// `u8::try_from` with an `unwrap` would say no more.
 fn points_from(links: &[Link], a: u8) -> [Option<u8>; 32]
     ensures the_points_to_each_section { result ≡ points_along links.now a }
 {
     array::from_fn(|b| points_in(links, a, b as u8))
 }
 
-// The ways from each section over the links. `as` is proved to lose nothing here.
+// The ways from each section over the links. `as` is proved to lose nothing here:
+// `u8::try_from` with an `unwrap` would say no more.
 pub(crate) fn chart(links: &[Link]) -> [Ways; 32]
     ensures the_ways_from_each_section { map (λ (w : Ways). w.points) result ≡ charted links.now }
 {
