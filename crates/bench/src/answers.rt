@@ -13,8 +13,7 @@ pub struct Answers;
 
 fn show_sheet(rt: &HostRuntime, question: &Question, sheet: &Sheet) -> anyhow::Result<()> {
     for sections in &sheet.rows[..question.roster.count()] {
-        // a place in brackets would be no plainer: it wants a lemma that no question has more than 16 steps
-        let places = Places(sections.get(..=question.steps).unwrap_or(sections));
+        let places = Places(&sections[..question.times()]);
         println!(rt; "   {places}")?;
     }
     Ok(())

@@ -22,7 +22,7 @@ fn same_rows(question: &Question, a: &Sheet, b: &Sheet) -> bool
     ensures whether_the_rows_of_the_group_are_the_same { result ≡ same_rows (rows_of question.now.roster.now) question.now.steps (marked question.now.group) (plan_of a.now) (plan_of b.now) }
 {
     // a row numbers the marks and both sheets alike, so it is counted
-    let times = question.steps + 1;
+    let times = question.times();
     (0..question.roster.count()).all(|row| !question.group[row]
         || same_row(a.rows[row], b.rows[row], times))
 }

@@ -5,6 +5,7 @@ use roster::roster::Roster;
 use track::layout::Layout;
 
 pub mod marks;
+pub mod times;
 
 // The trains of a group, marked by their rows, are to go from start to goal in so many steps.
 // Every question has 1 to 16 steps, a train in its group, and all starts and goals on its layout; the roster keeps them open.

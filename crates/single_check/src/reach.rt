@@ -41,8 +41,7 @@ fn fewest_between(question: &Question, start: u8, goal: u8) -> Option<usize>
 {
     let mut reached = [false; 32];
     reached[usize::from(start)] = true;
-    let times = question.steps + 1;
-    for steps in 0..times {
+    for steps in 0..question.times() {
         if reached[usize::from(goal)] {
             return Some(steps);
         }

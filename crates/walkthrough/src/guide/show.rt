@@ -58,8 +58,7 @@ impl Guide<'_> {
         for (train, sections) in question.roster.trains().iter().zip(&sheet.rows) {
             let row = Row {
                 number: train.number,
-                // a place in brackets would be no plainer: it wants a lemma that no question has more than 16 steps
-                sections: sections.get(..=question.steps).unwrap_or(sections),
+                sections: &sections[..question.times()],
             };
             println!(self.rt; "{row}")?;
         }

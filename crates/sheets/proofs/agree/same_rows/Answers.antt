@@ -11,9 +11,6 @@ use Rattle.sheets.proofs.Posed.{sound}
 use Rattle.sheets.proofs.Tables.{range_all}
 use Rattle.sheets.proofs.agree.same_rows.Goals as goal
 
-pub overflow_add-times : goal.overflow_add-times
-overflow_add-times c = omega (arith, (sound c.args.question.now).steps_most)
-
 pub all-requires-clause-callable : goal.all-requires-clause-callable
 all-requires-clause-callable c = let few = (sound c.args.question.now).steps_most in grind serving
 

@@ -1,15 +1,11 @@
 use Rattle.std.proofs.Common.{arith}
 use Rattle.track.proofs.Laws.{sections_most}
-use Rattle.sheets.proofs.Posed.{sound}
 use Rattle.sheets.specs.Inquiry.{problem_asked}
 use Rattle.single_check.proofs.Reaching.{sofar_none, sofar_found, sofar_more}
 use Rattle.single_check.proofs.reach.fewest_between.Goals as goal
 
 pub bounds-reached-from : goal.bounds-reached-from
 bounds-reached-from c = omega (arith, c.requires.start_inside, sections_most c.args.question.now.layout.now)
-
-pub overflow_add-times : goal.overflow_add-times
-overflow_add-times c = omega (arith, (sound c.args.question.now).steps_most)
 
 pub loop-steps-init : goal.loop-steps-init
 loop-steps-init c =
