@@ -1,7 +1,7 @@
 -- What stands on a row: its train, its mark and its sections, read off side by side.
-use Rattle.std.proofs.Common.{◌≡◌, ℕ, ◌+◌, ◌<◌, Bool, ◌&&◌, eqb, List, [], length, get_or, ap, ◌∙◌, ap₂, arith}
+use Rattle.std.proofs.Common.{◌≡◌, ℕ, ◌+◌, ◌<◌, Bool, ◌&&◌, eqb, List, [], length, get_or, take, drop, ap, ◌∙◌, ap₂, arith}
 use Rattle.std.specs.List.{zip}
-use Rattle.std.proofs.lemmas.List.{get_or_default}
+use Rattle.std.proofs.lemmas.List.{get_or-take, get_or-drop, get_or_default, length-take}
 use Rattle.std.proofs.lemmas.Slice.Zip.{length-zip, get_or-zip}
 use Rattle.rules.specs.Conflicts.{Conflicts}
 use Rattle.scales.specs.Measure.{Measure, joined}
@@ -35,6 +35,21 @@ of_row ts ms xs i t m x h =
       mark = ap (λ p. p.1) f;
       sections = ap (λ p. p.1) e;
     }
+
+-- a section and the one after it, read off side by side
+pub next_to : (x : List ℕ) (n i a b : ℕ) → (i < length (zip x (take n (drop 1 x)))) × ((a, b) ≡ get_or (zip x (take n (drop 1 x))) i (a, b))
+    → (a ≡ get_or x i 0) × (b ≡ get_or x (i + 1) 0)
+next_to x n i a b h =
+    let later = take n (drop 1 x) in
+    let z = length-zip x later in
+    let here : i < length x = omega (arith, z, h.0) in
+    let there : i < length later = omega (arith, z, h.0) in
+    let few : i < n = omega (arith, there, length-take n (drop 1 x)) in
+    let e = h.1 ∙ get_or-zip x later i (a, b) here there in
+    let turn : 1 + i ≡ i + 1 = omega arith in (
+      ap (λ p. p.0) e ∙ get_or_default x i a 0 here,
+      ap (λ p. p.1) e ∙ get_or_default later i b 0 there ∙ get_or-take n (drop 1 x) i 0 few ∙ get_or-drop 1 x i 0 ∙ ap (λ (j : ℕ). get_or x j 0) turn,
+    )
 
 pub row_told : {C : Type 0} (S : Measure C) (k : Conflicts) (q : Question) (z : Sheet) (i : ℕ) (t : Train) (x : List ℕ)
     → i < length (held q.roster.now) → i < length z.rows → t ≡ get_or (held q.roster.now) i t → x ≡ get_or z.rows i x

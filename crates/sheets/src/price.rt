@@ -34,14 +34,13 @@ pub fn move_price<S: Scale>(scale: &S, layout: &Layout, step: Move, goal: u8) ->
 fn steps_cost<S: Scale>(scale: &S, question: &Question, sections: [u8; 17], goal: u8) -> S::Cost
     ensures the_prices_of_the_steps_joined { result ≡ joined (S.Scale.measure scale.now) question.now.steps (λ t. (S.Scale.measure scale.now).price (over question.now.layout.now (slice_index sections t) (slice_index sections (t + 1))) (slice_index sections t == goal && slice_index sections (t + 1) == goal)) }
 {
+    // this loop and that of `sheet_cost` are no `fold`: the contract of its closure would have to say what it gives at each place
     let mut total = scale.nothing();
-    let mut at = sections[0];
-    for to in &sections[1..=question.steps] {
+    for (at, to) in sections.iter().zip(&sections[1..question.times()]) {
         total = scale.join(
             total,
-            move_price(scale, question.layout, Move::new(at, *to), goal),
+            move_price(scale, question.layout, Move::new(*at, *to), goal),
         );
-        at = *to;
     }
     total
 }
