@@ -45,11 +45,11 @@ fn move_cost<S: Scale, R: Rule, N: Rests<S::Cost>>(
     ensures the_price_joined_with_the_rest { result ≡ move_cost (S.Scale.measure ahead.now.group.now.board.scale.now) (task R.Rule.conflicts ahead.now.group.now.board) turn x }
 {
     let group = ahead.group;
-    if !group.board.may_move(turn.at, turn.to, turn.moved, x) {
+    if !group.board.may_move(&turn, x) {
         return None;
     }
     let rest = least_rest(ahead, turn.after(x))?;
-    let price = group.board.move_price(turn.at, turn.moved, x);
+    let price = group.board.move_price(&turn, x);
     Some(group.board.scale.join(price, rest))
 }
 

@@ -32,11 +32,8 @@ fn explore<S: Scale, R: Rule>(
     }
     let mut best: Option<Found<S::Cost>> = None;
     for x in 0..group.board.layout.sections() {
-        if group
-            .board
-            .may_move(spot.turn.at, spot.turn.to, spot.turn.moved, x)
-        {
-            let price = group.board.move_price(spot.turn.at, spot.turn.moved, x);
+        if group.board.may_move(&spot.turn, x) {
+            let price = group.board.move_price(&spot.turn, x);
             let next = spot.after(x, group.board.scale.join(spot.sofar, price));
             let nearer = best.as_ref().map(|f| f.cost).or(bound);
             // the section is written in place, since a plan is long to copy at every turn

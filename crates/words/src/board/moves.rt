@@ -4,6 +4,7 @@ ghost use Rattle.words.specs.Joint.{may_move, move_price, home};
 ghost use Rattle.words.specs.Tasks.{task, open_to};
 
 use crate::board::Board;
+use crate::turn::Turn;
 use rules::moves::Move;
 use rules::rule::Rule;
 use scales::scale::Scale;
@@ -36,23 +37,24 @@ impl<'a, S, R: Rule> Board<'a, S, R> {
         from.iter().zip(to).all(|(&a, &b)| !self.rule.conflict(self.layout, Move::new(a, b), next))
     }
 
-    // Whether the train j, from where it stands, may go to x beside the moves of the trains before it.
-    pub fn may_move(&self, at: [u8; 8], to: [u8; 8], j: usize, x: u8) -> bool
-        requires { j < 8 }
-        ensures whether_the_move_is_open_and_meets_no_conflict { result ≡ may_move (task R.Rule.conflicts self.now) at to j x }
+    // Whether the train whose turn it is may go to x, beside the moves of the trains before it.
+    pub fn may_move(&self, turn: &Turn, x: u8) -> bool
+        requires { turn.now.moved < 8 }
+        ensures whether_the_move_is_open_and_meets_no_conflict { result ≡ may_move (task R.Rule.conflicts self.now) turn.now.at turn.now.to turn.now.moved x }
     {
-        let step = Move::new(at[j], x);
-        self.open_to(step) && self.clear_of(&at[..j], &to[..j], step)
+        let step = Move::new(turn.at[turn.moved], x);
+        self.open_to(step) && self.clear_of(&turn.at[..turn.moved], &turn.to[..turn.moved], step)
     }
 }
 
 impl<'a, S: Scale, R> Board<'a, S, R> {
-    // The price of the move of the train j to x.
-    pub fn move_price(&self, at: [u8; 8], j: usize, x: u8) -> S::Cost
-        requires of_the_group { j < self.now.trains }
+    // The price of the move to x of the train whose turn it is.
+    pub fn move_price(&self, turn: &Turn, x: u8) -> S::Cost
+        requires of_the_group { turn.now.moved < self.now.trains }
         requires few { self.now.trains ≤ 8 }
-        ensures the_price_of_the_move { result ≡ move_price (S.Scale.measure self.now.scale.now) (task (λ _ _ _ _ _ _. true) self.now) at j x }
+        ensures the_price_of_the_move { result ≡ move_price (S.Scale.measure self.now.scale.now) (task (λ _ _ _ _ _ _. true) self.now) turn.now.at turn.now.moved x }
     {
-        move_price(self.scale, self.layout, Move::new(at[j], x), self.goal[j])
+        let step = Move::new(turn.at[turn.moved], x);
+        move_price(self.scale, self.layout, step, self.goal[turn.moved])
     }
 }
