@@ -1,8 +1,7 @@
 -- The moves to be tried.
-use Rattle.std.specs.Prelude.{◌≡◌, ℕ, ◌<◌, ◌≤◌, Bool, true, ◌||◌, List, length, take, is_some, ◌==◌, slice_index}
+use Rattle.std.specs.Prelude.{◌≡◌, ℕ, ◌<◌, ◌≤◌, Bool, true, ◌||◌, List, length, is_some, ◌==◌, slice_index}
 use Rattle.track.specs.Layouts.{look}
 use Rattle.track.specs.declared.layout.Layout.{Layout}
-use Rattle.table.specs.declared.tries.Tries.{Tries}
 
 -- a train in a can stand there or run there, whether it is open or not
 abbrev pub reached : Layout → ℕ → ℕ → Bool
@@ -14,7 +13,3 @@ pub record Candidates (n : ℕ) (reach : ℕ → Bool) (xs : List ℕ) : Type 0 
   pub rising : (i j : ℕ) → i < j → j < length xs → slice_index xs i < slice_index xs j
   pub inside : (i : ℕ) → i < length xs → slice_index xs i < n
   pub every : (x : ℕ) → x < n → reach x ≡ true → (i : ℕ) × (i < length xs) × (slice_index xs i ≡ x)
-
--- the sections held
-abbrev pub tried : Tries → List ℕ
-tried t = take t.count t.section

@@ -13,4 +13,3 @@ pub mod positions;
 pub mod read;
 pub mod step;
 pub mod table;
-pub mod tries;

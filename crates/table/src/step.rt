@@ -66,7 +66,7 @@ pub(crate) fn best_move<S: Scale, R: Rule, N: Rests<S::Cost>>(
 {
     let group = ahead.group;
     let tries = candidates(group.board.layout, turn.at[turn.moved]);
-    let sections = tries.sections();
+    let sections = tries.items();
     // room for every try, so that no memory is asked for; a cell is written by its place,
     // since after a loop over a zip with `iter_mut` a proof knows no cell that it wrote
     let mut run = [None; 33];

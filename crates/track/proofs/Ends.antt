@@ -1,5 +1,5 @@
 -- What a layout's ways say of its links.
-use Rattle.std.proofs.Common.{◌≡◌, ℕ, ◌<◌, ◌≤◌, Bool, true, ◌⊎◌, List, [], get_or, length, map, take, is_some, Some, None, Option, sym, refl, ap, ◌∙◌, inr, subst, ⊎_elim, arith}
+use Rattle.std.proofs.Common.{◌≡◌, ℕ, ◌<◌, ◌≤◌, Bool, true, ◌⊎◌, List, [], get_or, length, map, is_some, Some, None, Option, sym, refl, ap, ◌∙◌, inr, subst, ⊎_elim, arith}
 use Rattle.std.proofs.lemmas.Bool.{cases_lt}
 use Rattle.std.proofs.lemmas.List.{get_or-map, get_or_past, length-map}
 use Rattle.std.proofs.lemmas.List.FromFn.{get_or-map-range_with_len, length-map-range_with_len}
@@ -66,7 +66,7 @@ module _ (l : Layout) (a : ℕ) (w d : Ways) (h : a < 32) (e : w ≡ get_or l.wa
       ap (λ (row : List (Option ℕ)). get_or row b None) ways_at
       ∙ ⊎_elim (λ k. along_at ls a b k) (λ k. along_past ls a b k ∙ look_none l a b (inr (omega (arith, l.drawing.few)))) (cases_lt b 32)
 
-  pub neighbours_held : Neighbours l a (take w.count w.ends)
+  pub neighbours_held : Neighbours l a w.ends
   neighbours_held =
       let led : ℕ → Bool = λ b. is_some (get_or w.points b None) in
       let p = passing_has led 32 in

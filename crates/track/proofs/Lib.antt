@@ -1,7 +1,6 @@
 pub mod Linking
 pub mod Fouling
 pub mod Passing
-pub mod Listing
 pub mod Made
 pub mod Ends
 pub mod Laws

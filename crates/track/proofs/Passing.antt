@@ -1,10 +1,11 @@
 -- The numbers below n that pass a test, in rising order.
-use Rattle.std.proofs.Common.{◌≡◌, ℕ, zero, suc, ◌<◌, Bool, true, List, [], ◌∷◌, length, get_or, filter, sym, ap, ◌∙◌, subst, arith}
+use Rattle.std.proofs.Common.{◌≡◌, ℕ, zero, suc, ◌<◌, ◌≤◌, Bool, true, List, [], ◌∷◌, length, get_or, filter, sym, ap, ◌∙◌, subst, arith}
 use Rattle.std.proofs.lemmas.Bool.{cond-true, cond_both}
 use Rattle.std.proofs.lemmas.List.{get_or_default}
 use Rattle.std.proofs.lemmas.List.Elements.{All-filter, Contains-append_right, filter_passes}
 use Rattle.std.proofs.lemmas.List.FromFn.{length-range_with_len, get_or-range_with_len}
 use Rattle.std.proofs.lemmas.List.Kept.{AllPairs-filter}
+use Rattle.std.proofs.lemmas.List.Sums.{length-filter, count_by-le-length}
 use Rattle.std.specs.List.{All, AllPairs, Contains, range_with_len}
 use Rattle.track.specs.Ways.{passing}
 
@@ -17,6 +18,14 @@ in_filter t (y ∷ ys) (suc k) x h e g =
     let more = in_filter t ys k x (omega arith) e g in
     cond_both (t y) (y ∷ filter t ys) (filter t ys) (λ (zs : List ℕ). Contains zs x)
     (λ _. Contains-append_right (y ∷ []) (filter t ys) x more) (λ _. more)
+
+-- no more pass than there are
+pub few : (t : ℕ → Bool) (n : ℕ) → length (filter t (range_with_len 0 n)) ≤ n
+few t n =
+    let counted = length-filter t (range_with_len 0 n) in
+    let most = count_by-le-length t (range_with_len 0 n) in
+    let numbers = length-range_with_len 0 n in
+    omega arith
 
 -- what holds of the list
 pub record Passing (t : ℕ → Bool) (n : ℕ) (xs : List ℕ) : Type 0 where

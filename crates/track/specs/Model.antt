@@ -1,5 +1,5 @@
 -- What a drawing and a layout stand for, when a call is declined, and what it changes otherwise.
-use Rattle.std.specs.Prelude.{◌≡◌, ℕ, ◌+◌, Bool, not, ◌||◌, List, [], ◌∷◌, ◌++◌, length, take, None, Option, ◌==◌, nat_le, nat_lt}
+use Rattle.std.specs.Prelude.{◌≡◌, ℕ, ◌+◌, Bool, not, ◌||◌, List, [], ◌∷◌, ◌++◌, length, None, Option, ◌==◌, nat_le, nat_lt}
 use Rattle.track.specs.Fouls.{fouled_by}
 use Rattle.track.specs.Links.{same_link, points_of, linked_either}
 use Rattle.track.specs.Refusals.{met}
@@ -19,8 +19,8 @@ abbrev pub drawn : Drawing → Model
 drawn d =
     record {
       sections = d.sections;
-      links = take d.link_count d.links;
-      fouls = take d.foul_count d.fouls;
+      links = d.links;
+      fouls = d.fouls;
     }
 
 -- what the layout holds

@@ -1,9 +1,10 @@
-ghost use Rattle.std.specs.Prelude.{◌≡◌, ◌≤◌, true, take};
+ghost use Rattle.std.specs.Prelude.{◌≡◌, ◌≤◌, true, length};
 ghost use Rattle.track.specs.Links.{links_good, links_apart};
 ghost use Rattle.track.specs.Fouls.{fouls_good, fouls_apart};
 
 use crate::foul::Foul;
 use crate::link::Link;
+use crate::list::FixedList;
 
 pub mod draw;
 pub mod read;
@@ -12,17 +13,13 @@ pub mod read;
 #[derive(Drop)]
 pub struct Drawing {
     sections: u8,
-    // Each table has a fixed size, and a count of what is filled: no call may fail for want of memory.
-    // The kit's `arrayvec` would hold both in one, but its statements would then be trusted.
-    link_count: usize,
-    links: [Link; 64],
-    foul_count: usize,
-    fouls: [Foul; 32],
+    links: FixedList<Link, 64>,
+    fouls: FixedList<Foul, 32>,
     ghost few: { sections ≤ 32 },
-    ghost roomy: { link_count ≤ 64 },
-    ghost sound: { links_good sections (take link_count links) ≡ true },
-    ghost apart: { links_apart (take link_count links) ≡ true },
-    ghost roomier: { foul_count ≤ 32 },
-    ghost placed: { fouls_good (take link_count links) (take foul_count fouls) ≡ true },
-    ghost once: { fouls_apart (take foul_count fouls) ≡ true },
+    ghost roomy: { length links ≤ 64 },
+    ghost sound: { links_good sections links ≡ true },
+    ghost apart: { links_apart links ≡ true },
+    ghost roomier: { length fouls ≤ 32 },
+    ghost placed: { fouls_good links fouls ≡ true },
+    ghost once: { fouls_apart fouls ≡ true },
 }

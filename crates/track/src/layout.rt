@@ -1,4 +1,4 @@
-ghost use Rattle.std.specs.Prelude.{◌≡◌, map, take};
+ghost use Rattle.std.specs.Prelude.{◌≡◌, map};
 ghost use Rattle.track.specs.Ways.{charted};
 ghost use Rattle.track.specs.declared.ways.Ways.{Ways};
 
@@ -13,5 +13,5 @@ pub struct Layout {
     pub(crate) drawing: Drawing,
     // the ways from each section, worked out from the links
     pub(crate) ways: [Ways; 32],
-    ghost led: { map (λ (w : Ways). w.points) ways ≡ charted (take drawing.link_count drawing.links) },
+    ghost led: { map (λ (w : Ways). w.points) ways ≡ charted drawing.links },
 }

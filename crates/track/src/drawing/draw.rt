@@ -7,6 +7,7 @@ use crate::drawing::Drawing;
 use crate::foul::Foul;
 use crate::layout::Layout;
 use crate::link::{Link, same_link};
+use crate::list::FixedList;
 use crate::refusal::Refusal;
 use crate::ways::find::chart;
 
@@ -16,19 +17,17 @@ impl Drawing {
     {
         Drawing {
             sections: 0,
-            link_count: 0,
-            links: [Link {
+            links: FixedList::new(Link {
                 a: 0,
                 b: 0,
                 points: 0,
-            }; 64],
-            foul_count: 0,
-            fouls: [Foul {
+            }),
+            fouls: FixedList::new(Foul {
                 a: 0,
                 b: 0,
                 c: 0,
                 d: 0,
-            }; 32],
+            }),
         }
     }
 
@@ -62,11 +61,10 @@ impl Drawing {
         if self.has_link(a, b) {
             return Err(Refusal::LinkedAlready);
         }
-        if self.link_count >= 64 {
+        if self.links().len() >= 64 {
             return Err(Refusal::TooManyLinks);
         }
-        self.links[self.link_count] = Link { a, b, points };
-        self.link_count += 1;
+        self.links.push(Link { a, b, points });
         Ok(())
     }
 
@@ -90,11 +88,10 @@ impl Drawing {
         if self.has_foul(&foul) {
             return Err(Refusal::FouledAlready);
         }
-        if self.foul_count >= 32 {
+        if self.fouls().len() >= 32 {
             return Err(Refusal::TooManyFouls);
         }
-        self.fouls[self.foul_count] = foul;
-        self.foul_count += 1;
+        self.fouls.push(foul);
         Ok(())
     }
 

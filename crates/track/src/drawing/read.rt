@@ -18,13 +18,13 @@ impl Drawing {
     pub(crate) fn links(&self) -> &[Link]
         ensures the_links_that_are_drawn { result.now ≡ (drawn self.now).links }
     {
-        &self.links[..self.link_count]
+        self.links.items()
     }
 
-    fn fouls(&self) -> &[Foul]
+    pub(super) fn fouls(&self) -> &[Foul]
         ensures the_fouls_that_are_drawn { result.now ≡ (drawn self.now).fouls }
     {
-        &self.fouls[..self.foul_count]
+        self.fouls.items()
     }
 
     // Whether there is a link between `a` and `b`, from whichever end. Both ways are looked up, though each answers the same today:

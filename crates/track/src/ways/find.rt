@@ -1,8 +1,9 @@
-ghost use Rattle.std.specs.Prelude.{◌≡◌, map, take, slice_index_or};
+ghost use Rattle.std.specs.Prelude.{◌≡◌, map, slice_index_or};
 ghost use Rattle.track.specs.Ways.{points_along, charted};
 ghost use Rattle.track.specs.declared.ways.Ways.{Ways};
 
 use crate::link::{Link, points_in};
+use crate::list::FixedList;
 use crate::ways::Ways;
 use std::array;
 
@@ -12,21 +13,11 @@ impl Ways {
         ensures the_ways_from_the_section { result.points ≡ points_along links.now a }
     {
         let points = points_from(links, a);
-        let mut ends = [0; 32];
-        let mut count = 0;
-        // A loop by place: std's chains fill an array whole, by a call for each place, and here only the front is filled.
-        for (place, b) in (0..32u8)
-            .filter(|b| way_to(&points, *b).is_some())
-            .enumerate()
-        {
-            ends[place] = b;
-            count = place + 1;
+        let mut ends = FixedList::new(0);
+        for b in (0..32u8).filter(|b| way_to(&points, *b).is_some()) {
+            ends.push(b);
         }
-        Ways {
-            points,
-            count,
-            ends,
-        }
+        Ways { points, ends }
     }
 
     // The points on the way to `b`.
@@ -38,9 +29,9 @@ impl Ways {
 
     // The sections that a link leads to.
     pub(crate) fn ends(&self) -> &[u8]
-        ensures the_sections_that_a_link_leads_to { result.now ≡ take self.now.count self.now.ends }
+        ensures the_sections_that_a_link_leads_to { result.now ≡ self.now.ends }
     {
-        &self.ends[..self.count]
+        self.ends.items()
     }
 }
 

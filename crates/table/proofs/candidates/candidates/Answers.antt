@@ -4,29 +4,29 @@ use Rattle.std.proofs.lemmas.Bool.Decides.{nat_tests}
 use Rattle.std.proofs.lemmas.List.Sorted.{IsPartitionPoint-from_clause, IsPartitionedBy-ltb, IsNonDecreasingBy-from_default}
 use Rattle.std.specs.List.{insert}
 use Rattle.track.specs.Layouts.{sections_of}
-use Rattle.table.specs.Candidates.{Candidates, reached, tried}
+use Rattle.table.specs.Candidates.{Candidates, reached}
 use Rattle.table.proofs.Merging.{few, not_falling, candidates_all}
 use Rattle.table.proofs.candidates.candidates.Goals as goal
 
 pub extend-requires : goal.extend-requires
 extend-requires c =
-    omega (arith, ap length c.new-tries.ensures.nothing_yet, c.split_at.ensures.front_len, c.partition_point.ensures.bound, few _ _ _ c.neighbours-neighbours.ensures.the_linked_sections_in_rising_order)
+    omega (arith, ap length c.new-tries.ensures.no_item_yet, c.split_at.ensures.front_len, c.partition_point.ensures.bound, few _ _ _ c.neighbours-neighbours.ensures.the_linked_sections_in_rising_order)
 
 pub push-requires : goal.push-requires
 push-requires c =
-    omega (arith, length-append {A = ℕ}, ap length c.extend.ensures.with_those_after_it, ap length c.new-tries.ensures.nothing_yet, c.split_at.ensures.front_len, c.partition_point.ensures.bound, few _ _ _ c.neighbours-neighbours.ensures.the_linked_sections_in_rising_order)
+    omega (arith, length-append {A = ℕ}, ap length c.extend.ensures.the_items_stand_last, ap length c.new-tries.ensures.no_item_yet, c.split_at.ensures.front_len, c.partition_point.ensures.bound, few _ _ _ c.neighbours-neighbours.ensures.the_linked_sections_in_rising_order)
 
 pub extend-requires-2 : goal.extend-requires-2
 extend-requires-2 c =
-    omega (arith, length-append {A = ℕ}, ap length c.push.ensures.with_one_section_more, ap length c.extend.ensures.with_those_after_it, ap length c.new-tries.ensures.nothing_yet, c.split_at.ensures.front_len, c.split_at.ensures.back_len, c.partition_point.ensures.bound, few _ _ _ c.neighbours-neighbours.ensures.the_linked_sections_in_rising_order)
+    omega (arith, length-append {A = ℕ}, ap length c.push.ensures.the_item_stands_last, ap length c.extend.ensures.the_items_stand_last, ap length c.new-tries.ensures.no_item_yet, c.split_at.ensures.front_len, c.split_at.ensures.back_len, c.partition_point.ensures.bound, few _ _ _ c.neighbours-neighbours.ensures.the_linked_sections_in_rising_order)
 
 pub returns : goal.returns
 returns c =
     let N = c.neighbours-neighbours.ensures.the_linked_sections_in_rising_order in
     let P = IsPartitionPoint-from_clause (λ y. ltb y c.args.a) _ _ c.partition_point.ensures.partitioned
     (IsPartitionedBy-ltb (λ y. y) _ c.args.a (IsNonDecreasingBy-from_default (λ y. y) _ 0 (not_falling _ _ _ N))) (λ x r q k. search rules) in
-    let e : tried c.extend-2.new.self ≡ insert c.neighbours-neighbours.result.now c.partition_point.result c.args.a =
-    rw (c.extend-2.ensures.with_those_after_it, c.push.ensures.with_one_section_more, c.extend.ensures.with_those_after_it, c.new-tries.ensures.nothing_yet, c.split_at.ensures.front, c.split_at.ensures.back)
+    let e : c.extend-2.new.self ≡ insert c.neighbours-neighbours.result.now c.partition_point.result c.args.a =
+    rw (c.extend-2.ensures.the_items_stand_last, c.push.ensures.the_item_stands_last, c.extend.ensures.the_items_stand_last, c.new-tries.ensures.no_item_yet, c.split_at.ensures.front, c.split_at.ensures.back)
     (append_snoc (take c.partition_point.result c.neighbours-neighbours.result.now) c.args.a (drop c.partition_point.result c.neighbours-neighbours.result.now)) in
     record {
       every_section_in_reach_in_rising_order = subst (Candidates (sections_of c.args.layout.now) (reached c.args.layout.now c.args.a)) (sym e)

@@ -5,20 +5,20 @@ use Rattle.table.proofs.step.+step.Goals as goal
 
 pub best_move-returns-in_err-place : goal.best_move-returns-in_err-place
 best_move-returns-in_err-place g t c =
-    let e : c.loop-i.i ≡ length c.sections-sections.result.now = omega (arith, c.loop-i-test.false, c.loop-i.auto) in
+    let e : c.loop-i.i ≡ length c.items-sections.result.now = omega (arith, c.loop-i-test.false, c.loop-i.auto) in
     record {
       the_least_and_the_first_that_makes_it_up = rw c.from_residual.ensures
-          (picked_on g.R.Rule.conflicts c.args.ahead.now.group.now.board _ (g.met.S.Scale.lawful _) c.args.turn c.requires.yet_to_move (search rules) (search rules) _ c.sections-sections.result.now c.loop-i.run c.loop-i.i None
-          c.candidates-tries.ensures.every_section_in_reach_in_rising_order c.sections-sections.ensures.what_is_tried c.loop-i.invariant e c.in_err-place.ensures.the_first_of_the_least);
+          (picked_on g.R.Rule.conflicts c.args.ahead.now.group.now.board _ (g.met.S.Scale.lawful _) c.args.turn c.requires.yet_to_move (search rules) (search rules) _ c.items-sections.result.now c.loop-i.run c.loop-i.i None
+          c.candidates-tries.ensures.every_section_in_reach_in_rising_order c.items-sections.ensures.the_items_in_their_order c.loop-i.invariant e c.in_err-place.ensures.the_first_of_the_least);
     }
 
 pub best_move-returns : goal.best_move-returns
 best_move-returns g t c =
-    let e : c.loop-i.i ≡ length c.sections-sections.result.now = omega (arith, c.loop-i-test.false, c.loop-i.auto) in
+    let e : c.loop-i.i ≡ length c.items-sections.result.now = omega (arith, c.loop-i-test.false, c.loop-i.auto) in
     record {
       the_least_and_the_first_that_makes_it_up =
-          picked_on g.R.Rule.conflicts c.args.ahead.now.group.now.board _ (g.met.S.Scale.lawful _) c.args.turn c.requires.yet_to_move (search rules) (search rules) _ c.sections-sections.result.now c.loop-i.run c.loop-i.i (Some (c.in_ok-place.place, c.in_ok-place.cost))
-          c.candidates-tries.ensures.every_section_in_reach_in_rising_order c.sections-sections.ensures.what_is_tried c.loop-i.invariant e c.in_ok-place.ensures.the_first_of_the_least;
+          picked_on g.R.Rule.conflicts c.args.ahead.now.group.now.board _ (g.met.S.Scale.lawful _) c.args.turn c.requires.yet_to_move (search rules) (search rules) _ c.items-sections.result.now c.loop-i.run c.loop-i.i (Some (c.in_ok-place.place, c.in_ok-place.cost))
+          c.candidates-tries.ensures.every_section_in_reach_in_rising_order c.items-sections.ensures.the_items_in_their_order c.loop-i.invariant e c.in_ok-place.ensures.the_first_of_the_least;
     }
 
 pub move_cost-returns-then-not-may_move : goal.move_cost-returns-then-not-may_move
