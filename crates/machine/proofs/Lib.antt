@@ -1,1 +1,4 @@
 pub mod Turning
+pub mod Few
+pub mod Histories
+pub mod Printing

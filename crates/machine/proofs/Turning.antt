@@ -1,12 +1,12 @@
 -- One frame more, before the finish and after it.
-use Rattle.std.proofs.Common.{◌≡◌, ℕ, [], Ok, Err, Result, MatchResult, IsOkAnd, sym, refl, ap, ◌∙◌, subst}
+use Rattle.std.proofs.Common.{◌≡◌, ℕ, [], Ok, Err, Result, sym, refl, ap, ◌∙◌, subst}
 use Rattle.std.specs.Result.{result_and}
 use Rattle.track.specs.Model.{drawn, laid}
 use Rattle.track.specs.declared.refusal.Refusal.{Refusal}
 use Rattle.roster.specs.Book.{Call, plan}
 use Rattle.sheets.specs.declared.sheet.Sheet.{Sheet}
 use Rattle.planner.specs.Promise.{Reply, accepted}
-use Rattle.planner.specs.History.{Meaning, Stands, Step, event, says_done, says_plan}
+use Rattle.planner.specs.History.{Meaning, Stands, Step, event, says_done}
 use Rattle.planner.specs.declared.planner.Planner.{Planner}
 use Rattle.machine.specs.Asked.{Asked, finish, call}
 use Rattle.machine.specs.Progress.{drawing, planning}
@@ -16,7 +16,7 @@ use Rattle.machine.specs.declared.desk.Desk.{Desk}
 use Rattle.machine.specs.declared.phase.Phase.{Phase}
 use Rattle.machine.specs.declared.phase.Phase.TheVariants.{Drawing, Planning}
 use Rattle.machine.specs.declared.said.Said.{Said}
-use Rattle.machine.specs.declared.said.Said.TheVariants.{Done, Planned}
+use Rattle.machine.specs.declared.said.Said.TheVariants.{Done}
 
 module _ {R S Q C : Type 0} (k : Meaning R S Q C) (rule : R) (scale : S) (below : Q) where
   -- a turn of this phase, by what its frame reads as and what its reply tells
@@ -65,14 +65,3 @@ module _ {R S Q C : Type 0} (k : Meaning R S Q C) (rule : R) (scale : S) (below 
   pub done_turn : (p o next : Phase R S Q) (a b : Asked) (r : Result (Unit {0}) Refusal) (t : Result (Said C) Refusal) (s : Sheet) → p ≡ o → a ≡ b
       → t ≡ result_and r (Ok Done) → TurnOwes k rule scale below o b (says_done r) s s next → TurnOwes k rule scale below p a (reply_of t) s s next
   done_turn p o next a b r t s e f d h = turn_as k rule scale below p o next a b _ _ s s e f (done_said r t d) h
-
--- the reply of a plan
-module _ {C : Type 0} (r : Result (C × ℕ) Refusal) (t : Result (Said C) Refusal) (steps : ℕ) where
-  pub plan_said : MatchResult r (λ p. IsOkAnd t (λ said. said ≡ Planned p.0 p.1 steps)) (λ e. t ≡ Err e) → (reply_of t ≡ says_plan r) × NamesSteps steps t
-  plan_said h = go r t h
-    where
-      go : (x : Result (C × ℕ) Refusal) (y : Result (Said C) Refusal)
-          → MatchResult x (λ p. IsOkAnd y (λ said. said ≡ Planned p.0 p.1 steps)) (λ e. y ≡ Err e) → (reply_of y ≡ says_plan x) × NamesSteps steps y
-      go (Ok p) (Ok s) e = rw e (refl, refl)
-      go (Ok p) (Err x) e = absurd e
-      go (Err x) y e = rw e (refl, tt)

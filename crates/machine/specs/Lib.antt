@@ -2,3 +2,4 @@ pub mod Asked
 pub mod Progress
 pub mod Phases
 pub mod Lines
+pub mod Printing

@@ -7,25 +7,30 @@ use Rattle.frames.specs.Frames.{Told, read_as}
 use Rattle.planner.specs.Promise.{Reply, declined}
 use Rattle.planner.specs.History.{Meaning, says_done}
 use Rattle.machine.specs.Asked.{Asked, asked_by}
-use Rattle.machine.specs.Progress.{Progress, moved, after_line, progress_of}
+use Rattle.machine.specs.Progress.{Progress, Handed, handed, moved, after_line, beginning, progress_of}
 use Rattle.machine.specs.Phases.{StandsAt, FrameKept}
 use Rattle.machine.specs.declared.desk.Desk.{Desk}
+use Rattle.machine.specs.declared.machine.Machine.{Machine}
 use Rattle.machine.specs.declared.phase.Phase.{Phase}
 use Rattle.machine.specs.declared.phase.Phase.TheVariants.{Drawing}
 
--- a line with its reply, and the sheet before and after it
+-- a line with how many cells were handed in with it, its reply, and the sheet before and after it
 pub record LineEvent (C : Type 0) : Type 0 where
   pub line : List ℕ
+  pub cells : ℕ
   pub reply : Reply C
   pub before : Sheet
   pub afterwards : Sheet
 
-abbrev pub line_event : {C : Type 0} → List ℕ → Reply C → Sheet → Sheet → LineEvent C
-line_event line reply old new = record { line = line; reply = reply; before = old; afterwards = new }
+abbrev pub line_event : {C : Type 0} → List ℕ → ℕ → Reply C → Sheet → Sheet → LineEvent C
+line_event line cells reply old new = record { line = line; cells = cells; reply = reply; before = old; afterwards = new }
 
-abbrev pub lines_of : {C : Type 0} → List (LineEvent C) → List (List ℕ)
+abbrev pub handed_in : {C : Type 0} → LineEvent C → Handed
+handed_in e = handed e.line e.cells
+
+abbrev pub lines_of : {C : Type 0} → List (LineEvent C) → List Handed
 lines_of [] = []
-lines_of (e ∷ es) = e.line ∷ lines_of es
+lines_of (e ∷ es) = handed_in e ∷ lines_of es
 
 module _ {R S Q C : Type 0} (k : Meaning R S Q C) (rule : R) (scale : S) (below : Q) where
   -- one frame more: whatever the lines come to that the phase stands for, the reply is kept, and the next phase stands for one frame more
@@ -39,18 +44,32 @@ module _ {R S Q C : Type 0} (k : Meaning R S Q C) (rule : R) (scale : S) (below 
   ReadKept cells s (Ok t) reply old new = FrameKept k rule scale below s (asked_by cells t) reply old new
   ReadKept cells s (Err e) reply old new = (reply ≡ declined (number_of e)) × (new ≡ old)
 
-  abbrev pub LineKept : (cells : ℕ) → Progress → LineEvent C → Type 0
-  LineKept cells s e = ReadKept cells s (read_as e.line) e.reply e.before e.afterwards
+  abbrev pub LineKept : Progress → LineEvent C → Type 0
+  LineKept s e = ReadKept e.cells s (read_as e.line) e.reply e.before e.afterwards
 
   -- every reply is kept, each for what the lines before it come to
-  abbrev pub AllLinesKept : (cells : ℕ) → Progress → List (LineEvent C) → Type 0
-  AllLinesKept cells s [] = Unit {0}
-  AllLinesKept cells s (e ∷ es) = LineKept cells s e × AllLinesKept cells (after_line cells s e.line) es
+  abbrev pub AllLinesKept : Progress → List (LineEvent C) → Type 0
+  AllLinesKept s [] = Unit {0}
+  AllLinesKept s (e ∷ es) = LineKept s e × AllLinesKept (after_line s (handed_in e)) es
 
-  -- the phase has this history: it stands for what the lines come to, and every reply was kept
-  pub record LineHistory (cells : ℕ) (es : List (LineEvent C)) (phase : Phase R S Q) : Type 0 where
-    pub stands : StandsAt k rule scale below (progress_of cells (lines_of es)) phase
-    pub kept : AllLinesKept cells (progress_of cells []) es
+  -- a line on m that leaves next: whatever the lines before it come to, its reply is kept for that, and next stands for what all the lines come to
+  pub record LineStep (m : Machine R S Q) (e : LineEvent C) (next : Machine R S Q) : Type 0 where
+    pub kept : (s : Progress) → StandsAt k rule scale below s m.phase → LineKept s e
+    pub stands : (s : Progress) → StandsAt k rule scale below s m.phase → StandsAt k rule scale below (after_line s (handed_in e)) next.phase
+
+  -- m has this history: these lines were done, one after the other, every reply was kept, and m stands for what the lines come to
+  pub record LineHistory (es : List (LineEvent C)) (m : Machine R S Q) : Type 0 where
+    pub stands : StandsAt k rule scale below (progress_of (lines_of es)) m.phase
+    pub kept : AllLinesKept beginning es
+
+  -- a run: each line is done on the machine that the one before it left
+  pub data LineRun : Machine R S Q → List (LineEvent C) → Machine R S Q → Type 0 where
+    rest : {m : Machine R S Q} → LineRun m [] m
+    next : {m n o : Machine R S Q} (e : LineEvent C) {es : List (LineEvent C)} → LineStep m e n → LineRun n es o → LineRun m (e ∷ es) o
+
+  -- in every run that begins with this machine, every reply is kept for what the lines before it come to
+  abbrev pub EveryRunOfLinesKeepsAllReplies : Machine R S Q → Type 0
+  EveryRunOfLinesKeepsAllReplies made = (last : Machine R S Q) (es : List (LineEvent C)) → LineRun made es last → AllLinesKept beginning es
 
 -- a call that draws: its reply is kept, whatever the machine was made with
 abbrev pub DrawOwes : {R S Q C : Type 0} → Meaning R S Q C → Desk R S Q → Asked → Result (Unit {0}) Refusal → Desk R S Q → Type 0

@@ -1,10 +1,11 @@
 -- What the machine's phases stand for, and what the reply to a frame keeps.
-use Rattle.std.specs.Prelude.{◌≡◌, ℕ, List, Ok, Err, Result}
+use Rattle.std.specs.Prelude.{◌≡◌, ℕ, List, Ok, Err, Result, slice_index}
 use Rattle.track.specs.Model.{Model, drawn, laid, sections_declined, link_declined, foul_declined}
 use Rattle.track.specs.declared.refusal.Refusal.{Refusal}
 use Rattle.track.specs.Layouts.{sections_of}
 use Rattle.roster.specs.Book.{Call, book_of}
 use Rattle.sheets.specs.declared.sheet.Sheet.{Sheet}
+use Rattle.frames.specs.Lines.{bytes_of}
 use Rattle.planner.specs.Promise.{Reply, accepted, declined, planned, unless_declined, Kept}
 use Rattle.planner.specs.History.{Meaning, setting_of, Stands, says}
 use Rattle.planner.specs.declared.planner.Planner.{Planner}
@@ -28,6 +29,10 @@ abbrev pub NamesSteps : {C : Type 0} → (steps : ℕ) → Result (Said C) Refus
 NamesSteps steps (Ok Done) = Unit {0}
 NamesSteps steps (Ok (Planned cost groups h)) = h ≡ steps
 NamesSteps steps (Err e) = Unit {0}
+
+-- a reply that tells a plan names the steps that the line asks for
+abbrev pub NamesStepsOf : {C : Type 0} → (line : List ℕ) → Result (Said C) Refusal → Type 0
+NamesStepsOf line r = NamesSteps (slice_index (bytes_of line) 1) r
 
 module _ {R S Q C : Type 0} (k : Meaning R S Q C) (rule : R) (scale : S) (below : Q) where
   -- the planner that was made on a layout of what was drawn, with the rule, the scale and the search that the machine was made with

@@ -1,4 +1,4 @@
--- What a list of lines amounts to, worked out from the lines alone.
+-- What a list of lines amounts to, worked out from what is handed in alone.
 use Rattle.std.specs.Prelude.{ℕ, List, [], ◌∷◌, ◌++◌, Ok, Err, Result}
 use Rattle.track.specs.Model.{Model, blank, sections_declined, link_declined, foul_declined, widened, with_link, with_foul}
 use Rattle.track.specs.Refusals.{unless}
@@ -30,13 +30,24 @@ abbrev pub after_read : (cells : ℕ) → Progress → Result Told Refusal → P
 after_read cells s (Ok t) = moved s (asked_by cells t)
 after_read cells s (Err e) = s
 
-abbrev pub after_line : (cells : ℕ) → Progress → (line : List ℕ) → Progress
-after_line cells s line = after_read cells s (read_as line)
+-- a line that is handed in, with how many cells there are to plan with
+pub record Handed : Type 0 where
+  pub line : List ℕ
+  pub cells : ℕ
 
-abbrev pub progress_from : (cells : ℕ) → Progress → List (List ℕ) → Progress
-progress_from cells s [] = s
-progress_from cells s (line ∷ lines) = progress_from cells (after_line cells s line) lines
+abbrev pub handed : List ℕ → ℕ → Handed
+handed line cells = record { line = line; cells = cells }
+
+abbrev pub after_line : Progress → Handed → Progress
+after_line s h = after_read h.cells s (read_as h.line)
+
+abbrev pub progress_from : Progress → List Handed → Progress
+progress_from s [] = s
+progress_from s (h ∷ hs) = progress_from (after_line s h) hs
 
 -- it begins with nothing drawn
-abbrev pub progress_of : (cells : ℕ) → List (List ℕ) → Progress
-progress_of cells lines = progress_from cells (drawing blank) lines
+abbrev pub beginning : Progress
+beginning = drawing blank
+
+abbrev pub progress_of : List Handed → Progress
+progress_of hs = progress_from beginning hs

@@ -2,5 +2,6 @@
 #![tactic(auto)]
 
 pub mod desk;
+pub mod machine;
 pub mod phase;
 pub mod said;

@@ -6,7 +6,7 @@ ghost use Rattle.machine.specs.Phases.{reply_of, NamesSteps};
 ghost use Rattle.machine.specs.Lines.{TurnOwes};
 
 use crate::phase::Phase;
-use crate::said::Said;
+use crate::said::{Said, planned};
 use frames::frame::Frame;
 use roster::train::Train;
 use rules::rule::Rule;
@@ -60,14 +60,7 @@ impl<R: Rule, S: Scale, Q: Search<S>> Phase<R, S, Q> {
             (Phase::Planning(mut planner), Frame::Plan(part)) => {
                 let steps = usize::from(part.byte(0));
                 let answer = planner.plan(steps, cells, sheet);
-                (
-                    Phase::Planning(planner),
-                    answer.map(|(cost, groups)| Said::Planned {
-                        cost,
-                        groups,
-                        steps,
-                    }),
-                )
+                (Phase::Planning(planner), planned(answer, steps))
             }
             (phase, _) => (phase, Err(Refusal::WrongSideOfFinish)),
         }

@@ -10,4 +10,11 @@ impl<R, S, Q> Planner<R, S, Q> {
     {
         &self.roster
     }
+
+    // The scale that the costs of its plans are of.
+    pub fn scale(&self) -> &S
+        ensures its_scale { result.now ≡ self.now.scale }
+    {
+        &self.scale
+    }
 }

@@ -1,9 +1,9 @@
-use Rattle.std.proofs.Common.{◌≡◌, rules, Err, MatchResult, IsOkAnd, length, sym, refl, ◌∙◌, arith}
-use Rattle.planner.specs.History.{meaning}
+use Rattle.std.proofs.Common.{◌≡◌, length, sym, refl, ◌∙◌, arith}
+use Rattle.planner.specs.History.{meaning, setting_of}
 use Rattle.frames.specs.Frames.{frame_of}
 use Rattle.machine.specs.Asked.{field}
-use Rattle.machine.specs.declared.said.Said.TheVariants.{Planned}
-use Rattle.machine.proofs.Turning.{turn_as, done_turn, call_turn, plan_step, plan_said}
+use Rattle.machine.proofs.Few.{few_groups}
+use Rattle.machine.proofs.Turning.{turn_as, done_turn, call_turn, plan_step}
 use Rattle.machine.proofs.phase.Phase.turn.Goals as goal
 
 pub returns-in-Drawing-AddSections-clause-the_reply_is_kept : goal.returns-in-Drawing-AddSections-clause-the_reply_is_kept
@@ -61,12 +61,19 @@ returns-in-Planning-Plan g c =
     let told = c.plan-answer in
     let steps = field (frame_of c.args.frame).1 0 in
     let named : c.from-steps.result ≡ steps = rw i.is-1 (c.from-steps.ensures ∙ c.byte-in-Planning-Plan.ensures.the_byte_or_zero) in
-    let cases : MatchResult told.result (λ p. IsOkAnd c.map.result (λ said. said ≡ Planned p.0 p.1 c.from-steps.result)) (λ e. c.map.result ≡ Err e) = search rules in
-    let said = plan_said told.result c.map.result c.from-steps.result cases in
     record {
       the_reply_is_kept = λ rule scale below.
-          turn_as k rule scale below c.args.self _ _ _ _ _ _ s told.new.sheet i.is-0 (rw i.is-1 refl) said.0
+          turn_as k rule scale below c.args.self _ _ _ _ _ _ s told.new.sheet i.is-0 (rw i.is-1 refl) c.planned.ensures.it_tells_the_answer
           (call_turn k rule scale below i.planner told.new.self _ _ s told.new.sheet
           (plan_step k rule scale below i.planner told.new.self _ steps (length c.args.cells.now) _ s told.new.sheet told.ensures.the_reply_is_kept_after_any_calls (omega (arith, named))));
-      a_plan_is_told_with_the_steps_asked_for = rw (sym named) said.1;
+      a_plan_is_told_with_the_steps_asked_for = rw (sym named) c.planned.ensures.it_names_the_steps;
+    }
+
+pub planned-requires : goal.planned-requires
+planned-requires g c =
+    let k = meaning g.R.Rule.conflicts g.S.Scale.measure g.Q.Search.takes in
+    let planner = c.in-Planning-Plan.planner in
+    let told = c.plan-answer in
+    record {
+      at_most_eight_groups = few_groups (setting_of k planner) planner.roster c.from-steps.result _ c.args.sheet.now told.new.sheet _ told.result told.ensures.a_refusal_of_the_book_or_the_answer_of_the_grouping;
     }

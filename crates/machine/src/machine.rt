@@ -1,0 +1,11 @@
+use crate::phase::Phase;
+
+pub mod make;
+pub mod print;
+pub mod turn;
+
+// Does frames, one line after the other.
+#[derive(Drop)]
+pub struct Machine<R, S, Q> {
+    phase: Phase<R, S, Q>,
+}

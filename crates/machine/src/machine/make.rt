@@ -1,0 +1,29 @@
+ghost use Rattle.std.specs.Prelude.{◌≡◌, []};
+ghost use Rattle.planner.specs.History.{meaning};
+ghost use Rattle.machine.specs.Lines.{LineHistory, EveryRunOfLinesKeepsAllReplies};
+
+use crate::desk::Desk;
+use crate::machine::Machine;
+use crate::phase::Phase;
+use rules::rule::Rule;
+use scales::scale::Scale;
+use search::search::Search;
+use track::drawing::Drawing;
+
+impl<R: Rule, S: Scale, Q: Search<S>> Machine<R, S, Q> {
+    // A machine with nothing drawn. At the finish it makes its planner with this rule and scale, over this search.
+    pub fn new(rule: R, scale: S, below: Q) -> Machine<R, S, Q>
+        ensures its_history_is_empty { LineHistory (meaning R.Rule.conflicts S.Scale.measure Q.Search.takes) rule scale below [] result }
+        ensures every_run_of_lines_keeps_all_replies { EveryRunOfLinesKeepsAllReplies (meaning R.Rule.conflicts S.Scale.measure Q.Search.takes) rule scale below result }
+    {
+        let drawing = Drawing::new();
+        Machine {
+            phase: Phase::Drawing(Desk {
+                drawing,
+                rule,
+                scale,
+                below,
+            }),
+        }
+    }
+}
