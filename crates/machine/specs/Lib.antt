@@ -3,3 +3,4 @@ pub mod Progress
 pub mod Phases
 pub mod Lines
 pub mod Printing
+pub mod Inputs

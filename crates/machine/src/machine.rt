@@ -1,5 +1,6 @@
 use crate::phase::Phase;
 
+mod answer;
 pub mod make;
 pub mod print;
 pub mod turn;

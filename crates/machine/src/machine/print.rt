@@ -1,4 +1,4 @@
-ghost use Rattle.std.specs.Prelude.{◌≡◌, ◌≤◌, IsOk, length};
+ghost use Rattle.std.specs.Prelude.{◌≡◌, ◌≤◌, IfOk, IsOk, length};
 ghost use Rattle.frames.specs.Text.{text, printing, printed, EachReadsBack};
 ghost use Rattle.machine.specs.Printing.{reply_lines};
 
@@ -15,6 +15,7 @@ pub const LONGEST: usize = 498;
 
 impl<R, S: PrintedScale, Q> Machine<R, S, Q> {
     // Prints the reply to the line that was done last: why it was declined, or the sheet that it planned; other replies print nothing.
+    #[tactic(auto, using(crate::proofs::Printing::plan_fits, crate::proofs::Printing::refusal_fits))]
     pub fn print(
         &self,
         said: &Result<Said<S::Cost>, Refusal>,
@@ -24,6 +25,7 @@ impl<R, S: PrintedScale, Q> Machine<R, S, Q> {
         ensures its_length_or_30_if_it_does_not_fit { result ≡ printing out.old (text (reply_lines S.PrintedScale.shown self.now said.now sheet.now)) }
         ensures just_the_text_or_nothing_is_written { out.new ≡ printed out.old (text (reply_lines S.PrintedScale.shown self.now said.now sheet.now)) }
         ensures its_lines_can_be_read_again { EachReadsBack result (reply_lines S.PrintedScale.shown self.now said.now sheet.now) }
+        ensures no_more_than_there_is_room_for { IfOk result (λ n. n ≤ length out.old) }
         ensures the_longest_place_is_long_enough { LONGEST ≤ length out.old → IsOk result }
     {
         match (&self.phase, said) {

@@ -1,0 +1,12 @@
+use crate::machine::Machine;
+use frames::cutter::Cutter;
+
+pub mod make;
+pub mod take;
+
+// Takes an input byte by byte: cuts it into lines, does each line as soon as it is ended, and prints its reply.
+#[derive(Drop)]
+pub struct Intake<R, S, Q> {
+    cutter: Cutter,
+    machine: Machine<R, S, Q>,
+}
