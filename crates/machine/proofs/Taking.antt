@@ -1,5 +1,5 @@
 -- One byte more, and the end of the input.
-use Rattle.std.proofs.Common.{◌≡◌, ℕ, ◌+◌, Bool, true, false, cond, eqb, ◌⊎◌, inl, inr, List, [], ◌∷◌, ◌++◌, map, length, take, Ok, Err, Result, sym, refl, ap, ◌∙◌, subst}
+use Rattle.std.proofs.Common.{◌≡◌, ℕ, Bool, true, false, cond, eqb, inl, inr, List, [], ◌∷◌, ◌++◌, map, length, take, Ok, Result, sym, refl, ap, ◌∙◌, subst}
 use Rattle.std.proofs.lemmas.List.{append-nil}
 use Rattle.track.specs.declared.refusal.Refusal.{Refusal}
 use Rattle.sheets.specs.declared.sheet.Sheet.{Sheet}
@@ -8,8 +8,8 @@ use Rattle.frames.specs.Cutters.{cut_of}
 use Rattle.frames.proofs.Cutting.{next_of_the_input, all_lines}
 use Rattle.planner.specs.History.{Meaning}
 use Rattle.machine.specs.Phases.{reply_of}
-use Rattle.machine.specs.Lines.{LineEvent, line_event, LineStep, LineHistory}
-use Rattle.machine.specs.Inputs.{texts_of, Idle, InputHistory, InputDone, LineAnswered, ByteTaken, TakenBy, InputEnded}
+use Rattle.machine.specs.Lines.{LineEvent, line_event}
+use Rattle.machine.specs.Inputs.{texts_of, InputHistory, LineAnswered, ByteTaken, TakenBy, InputEnded}
 use Rattle.machine.specs.declared.intake.Intake.{Intake}
 use Rattle.machine.specs.declared.machine.Machine.{Machine}
 use Rattle.machine.proofs.Histories.{history_next}

@@ -1,9 +1,9 @@
 -- What an input comes to: its lines, each done as soon as it is ended, and what is printed then.
-use Rattle.std.specs.Prelude.{◌≡◌, ℕ, Bool, true, false, List, [], ◌∷◌, ◌++◌, map, length, take, Ok, Result, ◌==◌, ◌⊎◌}
+use Rattle.std.specs.Prelude.{◌≡◌, ℕ, Bool, true, false, List, [], ◌∷◌, ◌++◌, map, take, Ok, Result, ◌==◌, ◌⊎◌}
 use Rattle.track.specs.declared.refusal.Refusal.{Refusal}
 use Rattle.sheets.specs.declared.sheet.Sheet.{Sheet}
 use Rattle.frames.specs.Text.{text, printing, printed}
-use Rattle.frames.specs.Cuts.{begun_of, fresh, after_all, given, lines_of}
+use Rattle.frames.specs.Cuts.{fresh, after_all, given, lines_of}
 use Rattle.frames.specs.Cutters.{cut_of}
 use Rattle.planner.specs.History.{Meaning}
 use Rattle.machine.specs.Phases.{reply_of}

@@ -73,5 +73,5 @@ module _ {R S Q C : Type 0} (k : Meaning R S Q C) (rule : R) (scale : S) (below 
 
 -- a call that draws: its reply is kept, whatever the machine was made with
 abbrev pub DrawOwes : {R S Q C : Type 0} → Meaning R S Q C → Desk R S Q → Asked → Result (Unit {0}) Refusal → Desk R S Q → Type 0
-DrawOwes {R} {S} {Q} k desk asked r next =
-    (rule : R) (scale : S) (below : Q) (s : Sheet) → TurnOwes k rule scale below (Drawing desk) asked (says_done r) s s (Drawing next)
+DrawOwes {R} {S} {Q} k desk asked r after_it =
+    (rule : R) (scale : S) (below : Q) (s : Sheet) → TurnOwes k rule scale below (Drawing desk) asked (says_done r) s s (Drawing after_it)
