@@ -8,7 +8,7 @@ use Rattle.frames.specs.Cutters.{cut_of}
 use Rattle.frames.proofs.Cutting.{next_of_the_input, all_lines}
 use Rattle.planner.specs.History.{Meaning}
 use Rattle.machine.specs.Phases.{reply_of}
-use Rattle.machine.specs.Lines.{LineEvent, line_event}
+use Rattle.machine.specs.Lines.{LineEvent, line_event, LineStep}
 use Rattle.machine.specs.Inputs.{texts_of, InputHistory, LineAnswered, ByteTaken, TakenBy, InputEnded}
 use Rattle.machine.specs.declared.intake.Intake.{Intake}
 use Rattle.machine.specs.declared.machine.Machine.{Machine}
@@ -30,18 +30,19 @@ module _ {R S Q C : Type 0} (k : Meaning R S Q C) (rule : R) (scale : S) (below 
   given_by b e = given_more ∙ ap (λ (z : Bool). given fresh xs ++ cond z ((cut_of next.cutter).line ∷ []) []) e
 
   -- the byte ends a line
-  pub byte_ends : (cells : ℕ) (old new : Sheet) (was out : List ℕ) (told : Result ℕ Refusal) → eqb byte 10 ≡ true
-      → LineAnswered k rule scale below shown i.machine (cut_of next.cutter).line cells old new was out told next.machine
+  pub byte_ends : (line : List ℕ) (cells : ℕ) (old new : Sheet) (was out : List ℕ) (told : Result ℕ Refusal) → eqb byte 10 ≡ true → line ≡ (cut_of next.cutter).line
+      → LineAnswered k rule scale below shown i.machine line cells old new was out told next.machine
       → ByteTaken k rule scale below shown xs es byte cells old new was out told next
-  byte_ends cells old new was out told ends a =
+  byte_ends line cells old new was out told ends held a =
       let e : LineEvent C = line_event (cut_of next.cutter).line cells (reply_of a.said) old new in
       let P : Bool → Type 0 = λ z. TakenBy k rule scale below shown z xs es byte cells old new was out told next in
+      let step : LineStep k rule scale below i.machine e next.machine = subst (λ (z : List ℕ). LineStep k rule scale below i.machine (line_event z cells (reply_of a.said) old new) next.machine) held a.step in
       subst P (sym ends) record {
         said = a.said;
         taken = record {
           cut = cut_more;
           lines = texts_more es e ∙ ap (λ (ls : List (List ℕ)). ls ++ (e.line ∷ [])) h.lines ∙ sym (given_by true ends);
-          history = history_next k rule scale below i.machine next.machine e a.step es h.history;
+          history = history_next k rule scale below i.machine next.machine e step es h.history;
         };
         prints = a.prints;
       }

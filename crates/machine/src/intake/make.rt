@@ -14,9 +14,8 @@ impl<R: Rule, S: Scale, Q: Search<S>> Intake<R, S, Q> {
     pub fn new(rule: R, scale: S, below: Q) -> Intake<R, S, Q>
         ensures nothing_is_taken { InputHistory (meaning R.Rule.conflicts S.Scale.measure Q.Search.takes) rule scale below [] [] result }
     {
-        Intake {
-            cutter: Cutter::new(),
-            machine: Machine::new(rule, scale, below),
-        }
+        let cutter = Cutter::new();
+        let machine = Machine::new(rule, scale, below);
+        Intake { cutter, machine }
     }
 }
