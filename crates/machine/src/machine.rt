@@ -1,9 +1,9 @@
 use crate::phase::Phase;
 
 mod answer;
+pub mod line;
 pub mod make;
 pub mod print;
-pub mod turn;
 
 // Does frames, one line after the other.
 #[derive(Drop)]
