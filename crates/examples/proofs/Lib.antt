@@ -1,0 +1,5 @@
+pub mod Finding
+pub mod Asking
+pub mod Running
+pub mod Testing
+pub mod Passing

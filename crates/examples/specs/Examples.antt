@@ -1,0 +1,95 @@
+-- What a worked example asks, as plain data, and how the definitions of the other crates read it.
+use Rattle.std.specs.Prelude.{ℕ, ◌+◌, ◌*◌, Bool, ◌&&◌, List, [], ◌++◌, length, map, is_none, slice_index, slice_index_or, nat_le}
+use Rattle.std.specs.List.{list_all}
+use Rattle.track.specs.Links.{points_of, links_good, links_apart}
+use Rattle.track.specs.Fouls.{fouled_by, fouls_good, fouls_apart}
+use Rattle.track.specs.Model.{Model}
+use Rattle.rules.specs.Conflicts.{Conflicts, following, clear_section}
+use Rattle.scales.specs.Measure.{Measure}
+use Rattle.scales.specs.Steps.{steps}
+use Rattle.scales.specs.Pairs.{pairs}
+use Rattle.scales.specs.declared.pair.Pair.{Pair}
+use Rattle.roster.specs.Book.{Call, possess, plan, Book, empty, declined, book_of, entry_of}
+use Rattle.roster.specs.declared.train.Train.{Train}
+use Rattle.sheets.specs.Problem.{Problem, Group}
+use Rattle.sheets.specs.Plan.{Plan}
+use Rattle.sheets.specs.Posing.{all_trains}
+use Rattle.planner.specs.Promise.{Setting, problem}
+use Rattle.planner.specs.Refusals.{refusals}
+
+pub data Rule : Type 0 where
+  follow : Rule
+  clear : Rule
+
+-- which moves conflict under the rule, where `fouls a b c d` says which links foul
+abbrev pub conflicts_of : Rule → (fouls : Conflicts) → Conflicts
+conflicts_of follow fouls = following fouls
+conflicts_of clear fouls = clear_section fouls
+
+pub data Scale : Type 0 where
+  by_steps : Scale
+  by_steps_then_points : Scale
+
+abbrev pub Cost : Scale → Type 0
+Cost by_steps = ℕ
+Cost by_steps_then_points = Pair
+
+abbrev pub measure_of : (s : Scale) → Measure (Cost s)
+measure_of by_steps = steps
+measure_of by_steps_then_points = pairs
+
+-- what is expected: no sheet is lawful; or this sheet is the best, at this cost, and the grouping comes to it with so many groups
+pub data Expected (C : Type 0) : Type 0 where
+  no_sheet : Expected C
+  sheet : (rows : List (List ℕ)) (cost : C) (groups : ℕ) → Expected C
+
+pub record Example : Type 0 where
+  pub drawing : Model
+  pub closed : List ℕ
+  -- in rising number
+  pub trains : List Train
+  pub steps : ℕ
+  pub rule : Rule
+  pub scale : Scale
+  pub expected : Expected (Cost scale)
+
+-- the calls that a planner gets: each train is entered, and each closed section taken into possession
+abbrev pub calls : Example → List Call
+calls e = map entry_of e.trains ++ map possess e.closed
+
+abbrev pub book : Example → Book
+book e = book_of e.drawing.sections (calls e)
+
+-- the layout that is drawn so, the rule and the scale, and a search that takes every group
+abbrev pub setting : (e : Example) → Setting (Cost e.scale)
+setting e = record {
+  sections = e.drawing.sections;
+  points = points_of e.drawing.links;
+  conflicts = conflicts_of e.rule (fouled_by e.drawing.fouls);
+  measure = measure_of e.scale;
+  takes = λ i cells. Unit {0};
+}
+
+abbrev pub asked : Example → Problem
+asked e = problem (setting e) (book e) e.steps
+
+abbrev pub group : Example → Group
+group e = all_trains (length (book e).trains)
+
+-- a sheet by its rows: the section at each time
+abbrev pub by_rows : List (List ℕ) → Plan
+by_rows rows r t = slice_index (slice_index_or rows r []) t
+
+-- whether the drawing can be drawn: it has at most 32 sections, 64 links and 32 fouls, and each link and foul may stand on it
+abbrev pub drawn : Model → Bool
+drawn m =
+    (nat_le m.sections 32 && (nat_le (length m.links) 64 && nat_le (length m.fouls) 32))
+    && ((links_good m.sections m.links && links_apart m.links) && (fouls_good m.links m.fouls && fouls_apart m.fouls))
+
+-- the plan call after them, with the fewest cells that a planner takes
+abbrev pub plan_call : Example → Call
+plan_call e = plan e.steps (e.drawing.sections * (e.steps + 1))
+
+-- whether the book declines none of the calls
+abbrev pub granted : Example → Bool
+granted e = list_all is_none (refusals e.drawing.sections empty (calls e)) && is_none (declined e.drawing.sections (book e) (plan_call e))
