@@ -3,7 +3,7 @@ use Rattle.std.proofs.Common.{◌≡◌, ℕ, ◌<◌, ◌≤◌, Bool, true, fa
 use Rattle.std.specs.List.{list_all}
 use Rattle.std.proofs.lemmas.Bool.{and_parts, eqb-true, ltb-true, leb-true, lt-ltb, not-true}
 use Rattle.std.proofs.lemmas.List.Sums.{AllPass-from_list_all}
-use Rattle.track.specs.Links.{points_of, links_good}
+use Rattle.track.specs.Links.{points_of}
 use Rattle.track.specs.Fouls.{fouled_by}
 use Rattle.track.specs.declared.foul.Foul.{Foul}
 use Rattle.track.proofs.Linking.{points_few}
@@ -35,7 +35,7 @@ use Rattle.examples.specs.Examples.{Rule, follow, clear, conflicts_of, Scale, by
 use Rattle.examples.specs.Yields.{NoSheet, TheSheet, Gives, Replies, Yields}
 use Rattle.examples.specs.Table.{table, TheDefinitionsYieldEveryExample}
 use Rattle.examples.proofs.Running.{whole, whole_is}
-use Rattle.examples.proofs.Testing.{same_cost, asks_well, ends_without, ends_with, ends, test, all_pass}
+use Rattle.examples.proofs.Testing.{same_cost, few_points, asks_well, ends_without, ends_with, ends, test, all_pass}
 
 same_cost_is : (s : Scale) (a b : Cost s) → same_cost s a b ≡ true → a ≡ b
 same_cost_is by_steps a b h = eqb-true a b h
@@ -53,15 +53,12 @@ rule_laws : (r : Rule) (fouls : List Foul) → RuleLaws (conflicts_of r (fouled_
 rule_laws follow fouls = following_laws (fouled_by fouls) (fouled_by_swapped fouls)
 rule_laws clear fouls = clear_section_laws (fouled_by fouls) (fouled_by_swapped fouls)
 
-module _ (e : Example) (d : drawn e.drawing ≡ true) (w : asks_well (asked e) ≡ true) where
+module _ (e : Example) (links : few_points e.drawing ≡ true) (w : asks_well (asked e) ≡ true) where
   abbrev Q : Problem
   Q = asked e
 
   abbrev S : Measure (Cost e.scale)
   S = measure_of e.scale
-
-  links : links_good e.drawing.sections e.drawing.links ≡ true
-  links = (and_parts _ _ (and_parts _ _ (and_parts _ _ d).1).0).0
 
   run_over_few : (a b : ℕ) (t : Bool) (o : Option ℕ) → points_of e.drawing.links a b ≡ o → cond t 0 (unwrap_or o 0) ≤ 7
   run_over_few a b true o h = omega arith
@@ -183,14 +180,15 @@ pub passed : (e : Example) → test e ≡ true → Yields e
 passed e h =
     let a = and_parts (drawn e.drawing) _ h in
     let b = and_parts (granted e) _ a.1 in
-    let c = and_parts (asks_well (asked e)) _ b.1 in
-    let g = gives e a.0 c.0 e.expected c.1 in
+    let f = and_parts (few_points e.drawing) _ b.1 in
+    let c = and_parts (asks_well (asked e)) _ f.1 in
+    let g = gives e f.0 c.0 e.expected c.1 in
     let p = and_parts (list_all is_none (refusals e.drawing.sections empty (calls e))) _ b.0 in
     record {
       can_be_drawn = a.0;
       is_granted = b.0;
       gives = g;
-      replies = λ reply old new k. replies_kept e a.0 c.0 _ old new (refusal e.drawing.sections (book e) (plan_call e)) p.1 g reply k;
+      replies = λ reply old new k. replies_kept e f.0 c.0 _ old new (refusal e.drawing.sections (book e) (plan_call e)) p.1 g reply k;
     }
 
 -- each example of the table passes, and so yields what is expected

@@ -1,6 +1,8 @@
 -- The test of an example, and that every example of the table passes it.
 use Rattle.std.proofs.Common.{◌≡◌, ℕ, Bool, true, false, not, ◌&&◌, eqb, ltb, leb, List, Some, None, Option, refl}
 use Rattle.std.specs.List.{list_all}
+use Rattle.track.specs.Links.{links_good}
+use Rattle.track.specs.Model.{Model}
 use Rattle.sheets.specs.Problem.{Problem, all}
 use Rattle.sheets.specs.Plan.{row_cost, cost}
 use Rattle.sheets.specs.Theorems.{same_rows}
@@ -16,6 +18,10 @@ use Rattle.examples.proofs.Running.{whole}
 abbrev pub same_cost : (s : Scale) → Cost s → Cost s → Bool
 same_cost by_steps a b = eqb a b
 same_cost by_steps_then_points a b = eqb a.steps b.steps && eqb a.points b.points
+
+-- whether the links are as a drawing has them, with at most 7 points each
+abbrev pub few_points : Model → Bool
+few_points m = links_good m.sections m.links
 
 -- whether there are 1 to 16 steps and at most 8 rows, and starts and goals are open sections of the layout
 abbrev pub asks_well : Problem → Bool
@@ -45,7 +51,7 @@ ends e (sheet rows c n) o = ends_with e rows c n o
 
 -- the course is followed by computation, and it ends as is expected
 abbrev pub test : Example → Bool
-test e = drawn e.drawing && (granted e && (asks_well (asked e) && ends e e.expected (whole (measure_of e.scale) (asked e) (group e))))
+test e = drawn e.drawing && (granted e && (few_points e.drawing && (asks_well (asked e) && ends e e.expected (whole (measure_of e.scale) (asked e) (group e)))))
 
 -- computed over the whole table
 pub all_pass : list_all test table ≡ true

@@ -1,9 +1,11 @@
 -- What a worked example asks, as plain data, and how the definitions of the other crates read it.
-use Rattle.std.specs.Prelude.{ℕ, ◌+◌, ◌*◌, Bool, ◌&&◌, List, [], ◌++◌, length, map, is_none, slice_index, slice_index_or, nat_le}
+use Rattle.std.specs.Prelude.{ℕ, ◌+◌, ◌*◌, Bool, true, ◌&&◌, List, [], ◌∷◌, ◌++◌, length, map, is_none, slice_index, slice_index_or}
 use Rattle.std.specs.List.{list_all}
-use Rattle.track.specs.Links.{points_of, links_good, links_apart}
-use Rattle.track.specs.Fouls.{fouled_by, fouls_good, fouls_apart}
-use Rattle.track.specs.Model.{Model}
+use Rattle.track.specs.Links.{points_of}
+use Rattle.track.specs.Fouls.{fouled_by}
+use Rattle.track.specs.Model.{Model, blank, widened, with_link, with_foul, sections_declined, link_declined, foul_declined}
+use Rattle.track.specs.declared.foul.Foul.{Foul}
+use Rattle.track.specs.declared.link.Link.{Link}
 use Rattle.rules.specs.Conflicts.{Conflicts, following, clear_section}
 use Rattle.scales.specs.Measure.{Measure}
 use Rattle.scales.specs.Steps.{steps}
@@ -80,11 +82,21 @@ group e = all_trains (length (book e).trains)
 abbrev pub by_rows : List (List ℕ) → Plan
 by_rows rows r t = slice_index (slice_index_or rows r []) t
 
--- whether the drawing can be drawn: it has at most 32 sections, 64 links and 32 fouls, and each link and foul may stand on it
+-- whether none of the links is declined, drawn one after the other; and none of the fouls
+abbrev pub links_granted : Model → List Link → Bool
+links_granted m [] = true
+links_granted m (l ∷ ls) = is_none (link_declined m l.a l.b l.points) && links_granted (with_link m l.a l.b l.points) ls
+
+abbrev pub fouls_granted : Model → List Foul → Bool
+fouls_granted m [] = true
+fouls_granted m (f ∷ fs) = is_none (foul_declined m f.a f.b f.c f.d) && fouls_granted (with_foul m f.a f.b f.c f.d) fs
+
+-- whether the drawing can be drawn: first its sections, then its links, then its fouls
 abbrev pub drawn : Model → Bool
 drawn m =
-    (nat_le m.sections 32 && (nat_le (length m.links) 64 && nat_le (length m.fouls) 32))
-    && ((links_good m.sections m.links && links_apart m.links) && (fouls_good m.links m.fouls && fouls_apart m.fouls))
+    is_none (sections_declined blank m.sections)
+    && (links_granted (widened blank m.sections) m.links
+    && fouls_granted (record { sections = m.sections; links = m.links; fouls = [] }) m.fouls)
 
 -- the plan call after them, with the fewest cells that a planner takes
 abbrev pub plan_call : Example → Call
