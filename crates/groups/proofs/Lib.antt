@@ -4,5 +4,6 @@ pub mod Apart
 pub mod Once
 pub mod Right
 pub mod Fewer
+pub mod Exists
 pub mod Moved
 pub mod Onward
