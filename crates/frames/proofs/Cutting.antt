@@ -1,6 +1,6 @@
 -- The lines that bytes give, in any pieces; and a line of which the first 65 bytes are held.
-use Rattle.std.proofs.Common.{◌≡◌, ℕ, zero, suc, ◌+◌, ◌<◌, ◌≤◌, Bool, true, false, cond, eqb, List, [], ◌∷◌, ◌++◌, map, length, take, set, Some, Err, Option, sym, refl, ap, ◌∙◌, ap₂, ⊎_elim, arith}
-use Rattle.std.proofs.lemmas.List.{length-take, length-append, take_all, take-append-le, take_more_set}
+use Rattle.std.proofs.Common.{◌≡◌, ℕ, zero, suc, ◌<◌, ◌≤◌, Bool, true, false, cond, eqb, List, [], ◌∷◌, ◌++◌, map, length, take, Some, Err, Option, sym, refl, ap, ◌∙◌, ap₂, ⊎_elim, arith}
+use Rattle.std.proofs.lemmas.List.{length-take, length-append, take_all, take_at}
 use Rattle.std.proofs.lemmas.Bool.{cases_lt}
 use Rattle.std.proofs.lemmas.Bool.Decides.{nat_tests}
 use Rattle.track.specs.declared.refusal.Refusal.TheVariants.{NotPairsOfDigits}
@@ -84,14 +84,11 @@ clipped_reads_the_same = clipped
 
 -- one byte more
 
-pub full : (held : List ℕ) (n x : ℕ) → n ≡ 65 → length held ≡ 65 → take 65 held ≡ take 65 (take n held ++ (x ∷ []))
-full held n x e h =
-    sym (ap (λ (k : ℕ). take 65 (take k held ++ (x ∷ []))) e ∙ clip 65 held (x ∷ []) ∙ take-append-le 65 held (x ∷ []) (omega arith))
+pub full : (held : List ℕ) (x : ℕ) → length held ≡ 65 → held ≡ take 65 (held ++ (x ∷ []))
+full held x h = sym (take_at held (x ∷ []) 65 h)
 
-pub stored : (held : List ℕ) (n x : ℕ) → n < 65 → length held ≡ 65 → take (n + 1) (set held n x) ≡ take 65 (take n held ++ (x ∷ []))
-stored held n x h k =
-    let m : length (take n held ++ (x ∷ [])) ≤ 65 = omega (arith, length-append (take n held) (x ∷ []), length-take n held) in
-    take_more_set held n x (omega arith) ∙ sym (take_all 65 (take n held ++ (x ∷ [])) m)
+pub stored : (held : List ℕ) (x : ℕ) → length held < 65 → held ++ (x ∷ []) ≡ take 65 (held ++ (x ∷ []))
+stored held x h = sym (take_all 65 (held ++ (x ∷ [])) (omega (arith, length-append held (x ∷ []))))
 
 pub ends : (s : Cut) (x : ℕ) (line : List ℕ) → x ≡ 10 → line ≡ begun_of s → cut line true ≡ after s x
 unfolding stepped

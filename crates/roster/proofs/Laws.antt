@@ -1,6 +1,5 @@
 -- What every roster keeps, said of its rows.
 use Rattle.std.proofs.Common.{◌≡◌, ℕ, zero, suc, ◌<◌, ◌≤◌, true, false, not, eqb, List, [], ◌∷◌, length, get_or, sym, refl, inl, inr, arith}
-use Rattle.std.proofs.lemmas.List.{length-take}
 use Rattle.std.specs.List.{slice_get}
 use Rattle.std.proofs.lemmas.Option.{slice_get-get_or, slice_get_past}
 use Rattle.std.proofs.lemmas.Bool.{cases_lt, and_parts, or_parts, not-true, eqb-false}
@@ -30,7 +29,7 @@ apart_at f (x ∷ xs) (suc r) (suc q) d h i l e =
 
 pub rows_most : (o : Roster) → rows_of o ≤ 8
 unfolding rows_of
-rows_most o = omega (arith, length-take o.count o.trains, o.room)
+rows_most o = o.room
 
 pub start_open : (o : Roster) (r : ℕ) → r < rows_of o → closed_of o (start_at o r) ≡ false
 unfolding rows_of start_at closed_of

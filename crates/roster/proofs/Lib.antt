@@ -1,4 +1,3 @@
-pub mod Tables
 pub mod Entering
 pub mod Leaving
 pub mod Digits

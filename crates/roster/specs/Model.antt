@@ -1,12 +1,12 @@
 -- What a roster holds: its book, and its rows.
-use Rattle.std.specs.Prelude.{◌≡◌, ℕ, ◌<◌, ◌≤◌, Bool, false, List, length, take, Some, None, Option, ◌≢◌, slice_index_or}
+use Rattle.std.specs.Prelude.{◌≡◌, ℕ, ◌<◌, ◌≤◌, Bool, false, List, length, Some, None, Option, ◌≢◌, slice_index_or}
 use Rattle.roster.specs.Trains.{has}
 use Rattle.roster.specs.Book.{Book}
 use Rattle.roster.specs.declared.train.Train.{Train}
 use Rattle.roster.specs.declared.roster.Roster.{Roster}
 
 abbrev pub held : Roster → List Train
-held r = take r.count r.trains
+held r = r.trains
 
 abbrev pub seen : Roster → Book
 seen r = record { trains = held r; closed = has r.closed }

@@ -1,4 +1,5 @@
 ghost use Rattle.std.specs.Prelude.{◌≡◌, ◌+◌, ◌<◌, ◌≤◌, List, [], ◌∷◌, ◌++◌, length, take};
+ghost use Rattle.std.specs.List.{insert, remove};
 
 use std::marker::Model;
 
@@ -46,6 +47,35 @@ impl<T: Copy, const N: usize> FixedList<T, N> {
         let slots = &mut self.slots[..];
         slots[self.count..end].copy_from_slice(items);
         self.count = end;
+    }
+
+    // Puts `item` at `place`, and moves those from there on up by one.
+    pub fn insert(&mut self, place: usize, item: T)
+        requires room { length self.old < N }
+        requires within { place ≤ length self.old }
+        ensures the_item_stands_at_its_place { self.new ≡ insert self.old place item }
+    {
+        let end = self.count + 1;
+        let slots = &mut self.slots[..];
+        slots[self.count] = item;
+        slots[place..end].rotate_right(1);
+        self.count = end;
+    }
+
+    // Takes out the item at `place`, and moves those after it down by one.
+    pub fn remove(&mut self, place: usize)
+        requires within { place < length self.old }
+        ensures the_item_is_gone { self.new ≡ remove self.old place }
+    {
+        let slots = &mut self.slots[..];
+        slots[place..self.count].rotate_left(1);
+        self.count -= 1;
+    }
+
+    pub fn clear(&mut self)
+        ensures no_item_is_left { self.new ≡ [] }
+    {
+        self.count = 0;
     }
 
     pub fn items(&self) -> &[T]

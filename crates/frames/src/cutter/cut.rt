@@ -1,8 +1,9 @@
-ghost use Rattle.std.specs.Prelude.{◌≡◌, ◌≤◌, false, not, [], ◌∷◌, ◌++◌, length, take, if◌then◌else◌, ◌==◌};
+ghost use Rattle.std.specs.Prelude.{◌≡◌, false, not, [], ◌∷◌, ◌++◌, length, take, ◌==◌};
 ghost use Rattle.frames.specs.Cuts.{cut, begun_of, after, fresh, AnyPieces, AllLines, NextOfTheInput, ClippedReadsTheSame};
 ghost use Rattle.frames.specs.Cutters.{cut_of};
 
 use crate::cutter::Cutter;
+use track::list::FixedList;
 
 impl Cutter {
     #[tactic(auto, using(crate::proofs::Cutting::all_lines))]
@@ -11,33 +12,28 @@ impl Cutter {
         ensures all_lines_are_given { AllLines }
     {
         Cutter {
-            held: [0; 65],
-            count: 0,
+            held: FixedList::new(0),
             ended: false,
         }
     }
 
-    // How many bytes of the line that the next byte belongs to are held.
-    fn begun(&self) -> usize
-        ensures none_behind_an_ended_line { result ≡ (if self.now.ended then 0 else self.now.count) }
-        ensures the_bytes_begun { take result self.now.held ≡ begun_of (cut_of self.now) }
-        ensures at_most_65 { result ≤ 65 }
+    // Lets go of a line that was ended: the next byte belongs to another.
+    fn begin(&mut self)
+        ensures the_bytes_begun { self.new.held ≡ begun_of (cut_of self.old) }
     {
-        if self.ended { 0 } else { self.count }
+        if self.ended {
+            self.held.clear();
+        }
     }
 
-    // Holds a byte behind the first `begun`, if it is one of the first 65.
+    // Holds a byte behind those that are held, if it is one of the first 65.
     #[tactic(auto, using(crate::proofs::Cutting::full, crate::proofs::Cutting::stored))]
-    fn hold(&mut self, begun: usize, byte: u8)
-        requires { begun ≤ 65 }
-        ensures one_of_the_first_65_is_held { cut_of self.new ≡ cut (take 65 (take begun self.old.held ++ (byte ∷ []))) false }
+    fn hold(&mut self, byte: u8)
+        ensures one_of_the_first_65_is_held { cut_of self.new ≡ cut (take 65 (self.old.held ++ (byte ∷ []))) false }
     {
         self.ended = false;
-        if begun < 65 {
-            self.held[begun] = byte;
-            self.count = begun + 1;
-        } else {
-            self.count = 65;
+        if self.held.items().len() < 65 {
+            self.held.push(byte);
         }
     }
 
@@ -49,13 +45,12 @@ impl Cutter {
         ensures the_line_that_it_ends_is_the_next_of_the_input { NextOfTheInput (cut_of self.old) byte (cut_of self.new) }
         ensures any_cut_into_pieces_gives_the_same_lines { AnyPieces }
     {
-        let begun = self.begun();
+        self.begin();
         if byte == b'\n' {
-            self.count = begun;
             self.ended = true;
             true
         } else {
-            self.hold(begun, byte);
+            self.hold(byte);
             false
         }
     }
@@ -66,13 +61,13 @@ impl Cutter {
         ensures what_is_held_of_the_line { result.now ≡ (cut_of self.now).line }
         ensures it_is_read_as_the_whole_line { ClippedReadsTheSame }
     {
-        &self.held[..self.count]
+        self.held.items()
     }
 
     // Whether a line has begun that no 0A has ended: at the end of the input it is the last one.
     pub fn has_rest(&self) -> bool
         ensures whether_a_line_has_begun { result ≡ not (length (begun_of (cut_of self.now)) == 0) }
     {
-        self.begun() > 0
+        !self.ended && self.held.items().len() > 0
     }
 }

@@ -6,9 +6,10 @@ ghost use Rattle.roster.specs.Book.Call.{enter, withdraw, possess, give_up};
 ghost use Rattle.roster.specs.Model.{seen, RosterLaws};
 
 use crate::roster::Roster;
-use crate::roster::table::{has, insert_at, out_of_range, remove_at};
+use crate::roster::checks::{has, out_of_range};
 use crate::train::Train;
 use track::layout::Layout;
+use track::list::FixedList;
 use track::refusal::Refusal;
 
 impl Roster {
@@ -17,13 +18,12 @@ impl Roster {
         ensures every_roster_keeps_its_laws { RosterLaws result }
     {
         Roster {
-            count: 0,
             closed: 0,
-            trains: [Train {
+            trains: FixedList::new(Train {
                 number: 0,
                 start: 0,
                 goal: 0,
-            }; 8],
+            }),
         }
     }
 
@@ -74,8 +74,7 @@ impl Roster {
             return Err(Refusal::RosterFull);
         }
         let place = self.place(number);
-        insert_at(&mut self.trains, self.count, place, train);
-        self.count += 1;
+        self.trains.insert(place, train);
         Ok(())
     }
 
@@ -90,8 +89,7 @@ impl Roster {
         let Some(row) = self.find(number) else {
             return Err(Refusal::NotOnRoster);
         };
-        remove_at(&mut self.trains, self.count, row);
-        self.count -= 1;
+        self.trains.remove(row);
         Ok(())
     }
 

@@ -5,7 +5,7 @@ ghost use Rattle.roster.specs.Book.{how_many, lowest};
 ghost use Rattle.roster.specs.Model.{held, seen, rows_of, closed_of, RowIs};
 
 use crate::roster::Roster;
-use crate::roster::table::has;
+use crate::roster::checks::has;
 use crate::train::Train;
 
 impl Roster {
@@ -16,7 +16,7 @@ impl Roster {
         ensures at_most_eight { length result.now ≤ 8 }
         ensures each_stands_on_its_row { (row : ℕ) → RowIs self.now row (slice_get result.now row) }
     {
-        &self.trains[..self.count]
+        self.trains.items()
     }
 
     // How many trains there are, and with that how many rows.
@@ -24,7 +24,6 @@ impl Roster {
         ensures as_many_as_the_book_has { result ≡ length (seen self.now).trains }
         ensures as_many_as_there_are_rows { result ≡ rows_of self.now }
         ensures at_most_eight { result ≤ 8 }
-        ensures the_count_that_is_kept { result ≡ self.now.count }
     {
         self.trains().len()
     }
@@ -81,7 +80,7 @@ impl Roster {
     // How many trains have a number below `number` or equal to it, before the first with a higher one.
     pub(super) fn place(&self, number: u16) -> usize
         ensures as_many_as_come_before { result ≡ prefix_len (λ x. nat_le x.number number) (held self.now) }
-        ensures at_most_the_count { result ≤ self.now.count }
+        ensures at_most_the_count { result ≤ length (held self.now) }
     {
         self.trains()
             .partition_point(|train| train.number <= number)

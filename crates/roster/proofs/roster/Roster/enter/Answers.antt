@@ -1,5 +1,6 @@
-use Rattle.std.proofs.Common.{◌≡◌, ℕ, ◌+◌, true, false, not, ◌||◌, leb, List, length, take, sym, ap, ◌∙◌, arith}
+use Rattle.std.proofs.Common.{◌≡◌, ℕ, true, false, not, ◌||◌, leb, List, length, sym, ap, ◌∙◌, arith}
 use Rattle.std.specs.List.{insert}
+use Rattle.std.proofs.lemmas.List.Edits.{length-insert}
 use Rattle.std.proofs.lemmas.Bool.Decides.{nat_tests}
 use Rattle.std.proofs.lemmas.Bool.{and_from}
 use Rattle.roster.specs.declared.train.Train.{Train}
@@ -13,7 +14,7 @@ pub invariant_of-self : goal.invariant_of-self
 invariant_of-self c =
     let r = c.args.self.now in
     let t = c.args.train in
-    let e : take (r.count + 1) c.insert_at.new.table ≡ entered t (held r) = c.insert_at.ensures.the_train_stands_at_its_place ∙ ap (λ (p : ℕ). insert (held r) p t) c.place-place.ensures.as_many_as_come_before ∙ inserted_entered t (held r) in
+    let e : c.insert.new.self ≡ entered t (held r) = c.insert.ensures.the_item_stands_at_its_place ∙ ap (λ (p : ℕ). insert (held r) p t) c.place-place.ensures.as_many_as_come_before ∙ inserted_entered t (held r) in
     let a = rising_entered t (held r) r.ordered (sym c.if-number_taken.ensures.whether_a_train_has_the_number) in
     let m = numbered_entered t (held r) r.numbered (sym c.if-out_of_range.ensures.whether_no_train_has_such_a_number) in
     let b = apart_entered start_of t (held r) r.starts (sym c.if-start_taken.ensures.whether_a_train_has_the_start) in
@@ -21,7 +22,7 @@ invariant_of-self c =
     let k : runs r.closed t ≡ true = and_from _ _ (ap not (sym c.if-has.ensures.whether_the_bit_is_set)) (ap not (sym c.if-has-2.ensures.whether_the_bit_is_set)) in
     let o = open_entered r.closed t (held r) r.free k in
     record {
-      room = omega arith;
+      room = omega (arith, ap length c.insert.ensures.the_item_stands_at_its_place, length-insert (held r) c.place-place.result t c.place-place.ensures.at_most_the_count);
       ordered = ap rising e ∙ a;
       numbered = ap all_numbered e ∙ m;
       starts = ap (apart_by start_of) e ∙ b;
@@ -34,7 +35,7 @@ returns c =
     let r = c.args.self.now in
     let n = sections_of c.args.layout.now in
     let t = c.args.train in
-    let e : take (r.count + 1) c.insert_at.new.table ≡ entered t (held r) = c.insert_at.ensures.the_train_stands_at_its_place ∙ ap (λ (p : ℕ). insert (held r) p t) c.place-place.ensures.as_many_as_come_before ∙ inserted_entered t (held r) in
+    let e : c.insert.new.self ≡ entered t (held r) = c.insert.ensures.the_item_stands_at_its_place ∙ ap (λ (p : ℕ). insert (held r) p t) c.place-place.ensures.as_many_as_come_before ∙ inserted_entered t (held r) in
     let v = c.sections-sections.ensures.how_many_sections_there_are in
     let e1 : (leb n t.start || leb n t.goal) ≡ false = grind (arith, nat_tests) in
     let e0 : no_number t.number ≡ false = sym c.if-out_of_range.ensures.whether_no_train_has_such_a_number in

@@ -1,6 +1,5 @@
 use Rattle.std.proofs.Common.{leb, length, sym, ap, ◌∙◌, arith, rules}
 use Rattle.std.specs.List.{prefix_len}
-use Rattle.std.proofs.lemmas.List.{length-take}
 use Rattle.std.proofs.lemmas.List.Sorted.{IsPartitionPoint-from_clause, IsPartitionedBy-leb}
 use Rattle.std.proofs.lemmas.List.Sums.{prefix_len_is}
 use Rattle.roster.specs.Trains.{rising, number_of}
@@ -18,5 +17,5 @@ returns c =
     let P = IsPartitionPoint-from_clause (λ (x : Train). leb x.number v) all _ c.partition_point.ensures.partitioned (IsPartitionedBy-leb number_of all v (not_falling all (ap rising e ∙ r.ordered))) (λ x b q k. search rules) in
     record {
       as_many_as_come_before = sym (prefix_len_is (λ (x : Train). leb x.number v) all c.partition_point.result no_train c.partition_point.ensures.bound (λ k h. P.0 k no_train (omega arith) h) (λ h. P.1 c.partition_point.result no_train (omega arith) h)) ∙ ap (prefix_len (λ (x : Train). leb x.number v)) e;
-      at_most_the_count = omega (arith, c.partition_point.ensures.bound, ap length e, length-take r.count r.trains);
+      at_most_the_count = omega (arith, c.partition_point.ensures.bound, ap length e);
     }
