@@ -9,7 +9,7 @@ use Rattle.words.specs.Bridge.{Picks, Bridged, task_of_problem, alone, seen, gro
 use Rattle.words.specs.Gathering.{row_at}
 use Rattle.words.proofs.BestWords.{answers}
 use Rattle.words.proofs.Prices.{price_size}
-use Rattle.words.proofs.Least.{some≢none, some_same}
+use Rattle.std.proofs.lemmas.Option.{none-some, same_Some}
 use Rattle.words.proofs.Bridges.{bridge}
 use Rattle.words.proofs.Gathering.{every_group_picks}
 use Rattle.words.proofs.Picked.{place_row, few}
@@ -73,13 +73,13 @@ module _ {C : Type 0} (S : Measure C) (Q : Problem) (F : Group) where
         × ((y : Plan) → found_at o (sheet (best S moving (size * Q.steps) from)) ≡ Some y → Best S Q F y)
 
     told : (o : Option C) → rest S moving (size * Q.steps) from ≡ o → Told o
-    told None e = ((λ z. bridged.none_lawful ((answers S L moving prices (size * Q.steps) from small).none e)), λ y z. absurd (some≢none y (sym z)))
+    told None e = ((λ z. bridged.none_lawful ((answers S L moving prices (size * Q.steps) from small).none e)), λ y z. absurd (none-some y z))
     told (Some c) e =
         let v = best S moving (size * Q.steps) from in
         let b = (answers S L moving prices (size * Q.steps) from small).found c e in
         let w = word_is v b.runs in
         let z = bridged.best_of_word (sheet v) c (λ q k. refl) (subst (λ u. BestWord S moving (size * Q.steps) from u c) (sym w) b) in
-        ((λ n. absurd (some≢none _ n)), λ y n. subst (Best S Q F) (some_same n) z.0)
+        ((λ n. absurd (none-some _ (sym n))), λ y n. subst (Best S Q F) (same_Some _ _ n) z.0)
 
     pub ask_none : ask ≡ None → Without Q F
     ask_none = (told _ refl).0

@@ -1,12 +1,12 @@
 -- The course of the grouping by computation, for a search that takes every group.
-use Rattle.std.proofs.Common.{◌≡◌, ℕ, zero, suc, ◌+◌, ◌<◌, Bool, true, false, cond, eqb, ltb, Some, None, Option, sym, refl, subst, arith}
+use Rattle.std.proofs.Common.{◌≡◌, ℕ, zero, suc, ◌+◌, ◌<◌, Bool, true, false, cond, eqb, ltb, Some, None, Option, refl, subst, arith}
 use Rattle.std.proofs.lemmas.Bool.{and_from, eq-eqb, ltb-false, ltb-true}
 use Rattle.scales.specs.Measure.{Measure, MeasureLaws}
 use Rattle.sheets.specs.Problem.{Problem, ProblemLaws, Posed, Group, Member}
 use Rattle.sheets.specs.Plan.{Plan}
 use Rattle.groups.specs.Parts.{Naming, part, alone, merged, union, parts, FirstClash, put}
 use Rattle.groups.specs.Course.{Outcome, none, found, Course, Opening}
-use Rattle.words.proofs.Least.{some≢none, some_same}
+use Rattle.std.proofs.lemmas.Option.{none-some, same_Some}
 use Rattle.examples.proofs.Finding.{first_step, first_row, first_other, nowhere, somewhere}
 use Rattle.examples.proofs.Asking.{ask, ask_none, ask_some}
 
@@ -50,7 +50,7 @@ module _ {C : Type 0} (S : Measure C) (Q : Problem) (G : Group) where
     union_in name r q m = record { a_row = m.a_row; of_group = and_from _ _ m.of_group (eq-eqb _ _ (same_either (eqb (name r) (name q)) (name r))) }
 
     course_is : (n : ℕ) (name : Naming) (x : Plan) (o : Outcome) → course n name x ≡ Some o → Course S Q G Taken name x o
-    course_is zero name x o e = absurd (some≢none o (sym e))
+    course_is zero name x o e = absurd (none-some o e)
     course_is (suc n) name x o e = go (λ name x z. course_is n name x o z) (ltb t Q.steps) refl (ask S Q F) refl e
       where
         t : ℕ
@@ -68,13 +68,13 @@ module _ {C : Type 0} (S : Measure C) (Q : Problem) (G : Group) where
         go : ((next : Naming) (z : Plan) → course n next z ≡ Some o → Course S Q G Taken next z o) → (b : Bool) → ltb t Q.steps ≡ b → (a : Option Plan) → ask S Q F ≡ a
             → cond b (then (λ y. course n (merged name r q) (put F y x)) a) (Some (found (parts Q.rows G name) x)) ≡ Some o
             → Course S Q G Taken name x o
-        go rec false h a k z = subst (Course S Q G Taken name x) (some_same z) (Course.stands (nowhere Q G name x (ltb-false _ _ h)))
+        go rec false h a k z = subst (Course S Q G Taken name x) (same_Some _ _ z) (Course.stands (nowhere Q G name x (ltb-false _ _ h)))
         go rec true h a k z = joining (somewhere Q G name x (ltb-true _ _ h)) a k z
           where
             joining : FirstClash Q G name x t r q → (a : Option Plan) → ask S Q F ≡ a → then (λ y. course n (merged name r q) (put F y x)) a ≡ Some o
                 → Course S Q G Taken name x o
             joining f None k z =
-                subst (Course S Q G Taken name x) (some_same z) (Course.without t r q f (taken F) (ask_none S Q F L M D r (union_in name r q f.row) k))
+                subst (Course S Q G Taken name x) (same_Some _ _ z) (Course.without t r q f (taken F) (ask_none S Q F L M D r (union_in name r q f.row) k))
             joining f (Some y) k z =
                 Course.joins t r q y f (taken F) (ask_some S Q F L M D r (union_in name r q f.row) y k) (rec (merged name r q) (put F y x) z)
 
@@ -89,7 +89,7 @@ module _ {C : Type 0} (S : Measure C) (Q : Problem) (G : Group) where
         go : ((z : Plan) → opening m (suc k) z ≡ Some o → Opening S Q G Taken (suc k) z o) → (a : Option Plan) → ask S Q (part G alone k) ≡ a
             → then (λ y. opening m (suc k) (put (part G alone k) y x)) a ≡ Some o → Opening S Q G Taken k x o
         go rec None i z =
-            subst (Opening S Q G Taken k x) (some_same z)
+            subst (Opening S Q G Taken k x) (same_Some _ _ z)
             (Opening.without in_rows (full k in_rows) (taken (part G alone k)) (ask_none S Q (part G alone k) L M D k (alone_in k in_rows) i))
         go rec (Some y) i z =
             Opening.asks y in_rows (full k in_rows) (taken (part G alone k)) (ask_some S Q (part G alone k) L M D k (alone_in k in_rows) y i)
