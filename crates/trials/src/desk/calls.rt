@@ -1,0 +1,97 @@
+use crate::call::Call;
+use crate::calls::Calls;
+use crate::counted::{Counted, Ruled};
+use crate::desk::{Desk, Reply};
+use crate::dice::Dice;
+use crate::question::BEFORE;
+use planner::note::Note;
+use planner::order::{Order, Told};
+use search::search::Search;
+use std::alloc::{AllocError, Global};
+use track::refusal::Refusal;
+
+// The call as the planner takes it, with the note that is held if it gives one up. Nothing where no note is held for that.
+fn order_of(call: Call, held: &mut Option<Note>) -> Option<Order> {
+    match call {
+        Call::Enter(train) => Some(Order::Enter(train)),
+        Call::Withdraw(number) => Some(Order::Withdraw(number)),
+        Call::Possess(section) => Some(Order::Possess(section)),
+        Call::GiveUp(_) => held.take().map(Order::GiveUp),
+        Call::AskClosed => Some(Order::AskClosed),
+        Call::Plan { steps, .. } => Some(Order::Plan(steps)),
+    }
+}
+
+// How many cells come with a call.
+fn cells_of(call: Call) -> usize {
+    match call {
+        Call::Plan { cells, .. } => cells,
+        _ => 0,
+    }
+}
+
+impl<R: Ruled, S: Counted, Q: Search<S>> Desk<R, S, Q> {
+    // What was replied. A note is held; one that was held already is given up for it.
+    fn heard(&mut self, told: Result<Told<S::Cost>, Refusal>, held: &mut Option<Note>) -> Reply {
+        match told {
+            Ok(Told::Accepted) => Reply::Accepted,
+            Ok(Told::Noted(note)) => {
+                let section = note.section();
+                if let Some(older) = held.replace(note) {
+                    let _ = self.planner.give_up(older);
+                }
+                Reply::Noted(section)
+            }
+            Ok(Told::AreClosed(count, lowest)) => Reply::AreClosed(count, lowest),
+            Ok(Told::Planned(cost, groups)) => Reply::Planned(self.scale.counted(cost), groups),
+            Err(refusal) => Reply::Declined(refusal.number()),
+        }
+    }
+
+    // Makes any call, and tallies whether the reply, the sheet and the trains are then as they are to be.
+    pub fn call_next(
+        &mut self,
+        dice: &mut Dice,
+        alloc: Global,
+        held: &mut Option<Note>,
+        calls: &mut Calls,
+    ) -> Result<(), AllocError> {
+        let call = self.pick(dice, held);
+        let (wanted, after) = self.wanted(call, alloc)?;
+        if self.book.declines(self.throat.sections, call).is_none() {
+            self.book.take(call)?;
+        }
+        let mut cells = vec![in alloc; Some(self.scale.nothing()); cells_of(call)]?;
+        if let Some(order) = order_of(call, held) {
+            let mut sheet = BEFORE;
+            let told = self.planner.answer(order, cells.as_mut_slice(), &mut sheet);
+            let heard = self.heard(told, held);
+            let agrees = heard == wanted
+                && sheet == after
+                && self.planner.roster().trains() == self.book.trains.as_slice();
+            calls.count(wanted, agrees);
+        }
+        Ok(())
+    }
+
+    // Gives up a note that is still held, and tallies whether the reply is the book's.
+    pub fn give_back(&mut self, held: Option<Note>, calls: &mut Calls) -> Result<(), AllocError> {
+        let Some(note) = held else {
+            return Ok(());
+        };
+        let call = Call::GiveUp(note.section());
+        let wanted = match self.book.declines(self.throat.sections, call) {
+            Some(number) => Reply::Declined(number),
+            None => Reply::Accepted,
+        };
+        let heard = match self.planner.give_up(note) {
+            Ok(()) => Reply::Accepted,
+            Err(refusal) => Reply::Declined(refusal.number()),
+        };
+        calls.count(wanted, heard == wanted);
+        if wanted == Reply::Accepted {
+            self.book.take(call)?;
+        }
+        Ok(())
+    }
+}
