@@ -1,0 +1,6 @@
+mod act;
+mod drawings;
+mod lines;
+mod plans;
+mod questions;
+mod rosters;
