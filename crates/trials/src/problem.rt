@@ -23,7 +23,7 @@ pub type Way = [u8; 5];
 pub type Marks = [bool; 3];
 
 // Where three trains stand, by the time and then by the train. Read so, the sheets of one problem come in the order of their numbers.
-#[derive(Clone, Copy, PartialEq, Eq, PartialOrd, Ord, Debug)]
+#[derive(Clone, Copy, PartialEq, Eq, PartialOrd, Ord)]
 pub struct Plan {
     pub places: [[u8; 3]; 5],
 }
@@ -32,7 +32,7 @@ pub struct Plan {
 pub type Cost = (u16, u16);
 
 // The best sheet of some trains, what it costs, and how many lawful sheets cost no more.
-#[derive(Clone, Copy, PartialEq, Eq)]
+#[derive(Clone, Copy)]
 pub struct Best {
     pub cost: Cost,
     pub plan: Plan,

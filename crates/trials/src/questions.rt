@@ -104,7 +104,7 @@ impl Questions {
         let known = Known::of(problem, alloc)?;
         // what the cells hold is to make no difference
         let mut cells = vec![in alloc; Some(scale.nothing()); picked.cells]?;
-        self.note(&known, picked.group);
+        self.count_kind(&known, picked.group);
         let layout = picked.throat.layout().map_err(declined)?;
         let roster = picked.book.roster(&layout).map_err(declined)?;
         let [a, b, c] = picked.group;
@@ -140,7 +140,7 @@ impl Questions {
     }
 
     // Counts a question by its kind.
-    fn note(&mut self, known: &Known, group: Marks) {
+    fn count_kind(&mut self, known: &Known, group: Marks) {
         count(&mut self.asked, true);
         let trains = how_many(group);
         for (counted, before) in self.trains.iter_mut().zip(0..) {

@@ -5,7 +5,7 @@ use roster::train::Train;
 use std::alloc::{AllocError, Global};
 
 impl Book {
-    // A book of 1 to 3 trains, and now and then a closed section.
+    // A book of 1 to 3 trains, and some closed sections.
     pub fn pick(dice: &mut Dice, alloc: Global, sections: u8) -> Result<Book, AllocError> {
         let mut book = Book::new(alloc);
         for _ in 0..1 + dice.below(6) {
@@ -19,7 +19,7 @@ impl Book {
             }
         }
         for section in 0..sections {
-            if dice.once_in(8) {
+            if dice.once_in(4) {
                 book.try_call(sections, Call::Possess(section))?;
             }
         }

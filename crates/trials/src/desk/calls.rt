@@ -31,6 +31,13 @@ fn cells_of(call: Call) -> usize {
 }
 
 impl<R: Ruled, S: Counted, Q: Search<S>> Desk<R, S, Q> {
+    // Whether the planner has the trains and the closed sections of the book.
+    fn holds_the_book(&self) -> bool {
+        let roster = self.planner.roster();
+        roster.trains() == self.book.trains.as_slice()
+            && (0..32).all(|section| roster.is_closed(section) == self.book.is_closed(section))
+    }
+
     // What was replied. A note is held; one that was held already is given up for it.
     fn heard(&mut self, told: Result<Told<S::Cost>, Refusal>, held: &mut Option<Note>) -> Reply {
         match told {
@@ -48,7 +55,7 @@ impl<R: Ruled, S: Counted, Q: Search<S>> Desk<R, S, Q> {
         }
     }
 
-    // Makes any call, and tallies whether the reply, the sheet and the trains are then as they are to be.
+    // Makes any call, and tallies whether reply and sheet are as they are to be, and the planner then holds the book.
     pub fn call_next(
         &mut self,
         dice: &mut Dice,
@@ -66,10 +73,10 @@ impl<R: Ruled, S: Counted, Q: Search<S>> Desk<R, S, Q> {
             let mut sheet = BEFORE;
             let told = self.planner.answer(order, cells.as_mut_slice(), &mut sheet);
             let heard = self.heard(told, held);
-            let agrees = heard == wanted
-                && sheet == after
-                && self.planner.roster().trains() == self.book.trains.as_slice();
-            calls.count(wanted, agrees);
+            calls.count(
+                wanted,
+                heard == wanted && sheet == after && self.holds_the_book(),
+            );
         }
         Ok(())
     }
@@ -88,10 +95,10 @@ impl<R: Ruled, S: Counted, Q: Search<S>> Desk<R, S, Q> {
             Ok(()) => Reply::Accepted,
             Err(refusal) => Reply::Declined(refusal.number()),
         };
-        calls.count(wanted, heard == wanted);
         if wanted == Reply::Accepted {
             self.book.take(call)?;
         }
+        calls.count(wanted, heard == wanted && self.holds_the_book());
         Ok(())
     }
 }
