@@ -4,3 +4,4 @@ mod lines;
 mod plans;
 mod questions;
 mod rosters;
+mod sides;
