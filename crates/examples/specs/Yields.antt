@@ -35,7 +35,7 @@ pub record Yields (e : Example) : Type 0 where
   pub is_granted : granted e ≡ true
   -- what is expected comes of the definitions
   pub gives : Gives e e.expected
-  -- and of what a planner promises, whatever the sheet held
+  -- and of what a planner over a search that takes every group promises, whatever the sheet held
   pub replies : (reply : Reply (Cost e.scale)) (old new : Sheet)
       → Kept (setting e) (book e) (plan_call e) reply old new
       → Replies e e.expected reply old new

@@ -1,5 +1,5 @@
 -- Lines, one more and any number of them.
-use Rattle.std.proofs.Common.{◌≡◌, ℕ, List, [], ◌∷◌, ◌++◌, Ok, Err, Result, sym, refl, subst, slice_index}
+use Rattle.std.proofs.Common.{◌≡◌, ℕ, List, [], ◌∷◌, ◌++◌, Ok, Err, Result, sym, refl, ap, ◌∙◌, subst, slice_index}
 use Rattle.track.specs.Refusals.{number_of}
 use Rattle.track.specs.declared.refusal.Refusal.{Refusal}
 use Rattle.sheets.specs.declared.sheet.Sheet.{Sheet}
@@ -8,10 +8,20 @@ use Rattle.planner.specs.Promise.{Reply, declined}
 use Rattle.planner.specs.History.{Meaning}
 use Rattle.machine.specs.Asked.{asked_by, field}
 use Rattle.machine.specs.Progress.{Progress, after_line, after_read, beginning, progress_from, progress_of}
-use Rattle.machine.specs.Phases.{StandsAt, NamesSteps, NamesStepsOf}
+use Rattle.machine.specs.Phases.{StandsAt, NamesSteps, NamesStepsOf, DeclinedAsRead}
 use Rattle.machine.specs.Lines.{LineEvent, line_event, lines_of, handed_in, TurnOwes, ReadKept, LineKept, AllLinesKept, LineStep, LineHistory, LineRun, EveryRunOfLinesKeepsAllReplies}
 use Rattle.machine.specs.declared.machine.Machine.{Machine}
 use Rattle.machine.specs.declared.said.Said.{Said}
+
+-- a line that was read as a frame is none that is declined as it is read, and one that was declined is told as it is read
+pub frame_told : {C : Type 0} (line : List ℕ) (t : Told) → Ok t ≡ read_as line → (r : Result (Said C) Refusal) → DeclinedAsRead line r
+frame_told line t i r e h = absurd (cc (i ∙ h))
+
+same_refusal : (d e : Refusal) → ◌≡◌ {A = Result Told Refusal} (Err d) (Err e) → d ≡ e
+same_refusal d e h = cc
+
+pub refusal_told : {C : Type 0} (line : List ℕ) (d : Refusal) → Err d ≡ read_as line → DeclinedAsRead {C = C} line (Err d)
+refusal_told line d i e h = ap (λ (x : Refusal). Err x) (same_refusal d e (i ∙ h))
 
 module _ {R S Q C : Type 0} (k : Meaning R S Q C) (rule : R) (scale : S) (below : Q) where
   -- a line that is read as a frame, which then takes its turn

@@ -7,7 +7,7 @@ use Rattle.frames.specs.Cuts.{Cut, begun_of, fresh, after, after_all, given, res
 use Rattle.frames.specs.Cutters.{cut_of}
 use Rattle.frames.proofs.Cutting.{next_of_the_input, all_lines}
 use Rattle.planner.specs.History.{Meaning}
-use Rattle.machine.specs.Phases.{reply_of}
+use Rattle.machine.specs.Phases.{reply_of, NamesStepsOf}
 use Rattle.machine.specs.Lines.{LineEvent, line_event, LineStep}
 use Rattle.machine.specs.Inputs.{texts_of, InputHistory, LineAnswered, ByteTaken, TakenBy, InputEnded}
 use Rattle.machine.specs.declared.intake.Intake.{Intake}
@@ -39,6 +39,7 @@ module _ {R S Q C : Type 0} (k : Meaning R S Q C) (rule : R) (scale : S) (below 
       let step : LineStep k rule scale below i.machine e next.machine = subst (λ (z : List ℕ). LineStep k rule scale below i.machine (line_event z cells (reply_of a.said) old new) next.machine) held a.step in
       subst P (sym ends) record {
         said = a.said;
+        names = subst (λ (z : List ℕ). NamesStepsOf z a.said) held a.names;
         taken = record {
           cut = cut_more;
           lines = texts_more es e ∙ ap (λ (ls : List (List ℕ)). ls ++ (e.line ∷ [])) h.lines ∙ sym (given_by true ends);
@@ -84,6 +85,7 @@ module _ {R S Q C : Type 0} (k : Meaning R S Q C) (rule : R) (scale : S) (below 
       inr record {
         line = line;
         said = a.said;
+        names = a.names;
         done = record {
           lines = texts_more es e ∙ ap (λ (ls : List (List ℕ)). ls ++ (line ∷ [])) h.lines ∙ ap (λ (z : List ℕ). given fresh xs ++ (z ∷ [])) begun ∙ lines_by false some;
           history = history_next k rule scale below i.machine m e a.step es h.history;

@@ -6,7 +6,7 @@ use Rattle.frames.specs.Text.{text, printing, printed}
 use Rattle.frames.specs.Cuts.{fresh, after_all, given, lines_of}
 use Rattle.frames.specs.Cutters.{cut_of}
 use Rattle.planner.specs.History.{Meaning}
-use Rattle.machine.specs.Phases.{reply_of}
+use Rattle.machine.specs.Phases.{reply_of, NamesStepsOf}
 use Rattle.machine.specs.Lines.{LineEvent, line_event, LineStep, LineHistory}
 use Rattle.machine.specs.Printing.{reply_lines}
 use Rattle.machine.specs.declared.intake.Intake.{Intake}
@@ -43,12 +43,14 @@ module _ {R S Q C : Type 0} (k : Meaning R S Q C) (rule : R) (scale : S) (below 
     -- a line is done on m and leaves next, and its reply is printed
     pub record LineAnswered (m : Machine R S Q) (line : List ℕ) (cells : ℕ) (old new : Sheet) (was out : List ℕ) (told : Result ℕ Refusal) (next : Machine R S Q) : Type 0 where
       pub said : Result (Said C) Refusal
+      pub names : NamesStepsOf line said
       pub step : LineStep k rule scale below m (line_event line cells (reply_of said) old new) next
       pub prints : Prints shown next said new was out told
 
     -- one byte more, which ends a line: that line is done, and its reply printed
     pub record LineEnded (xs : List ℕ) (es : List (LineEvent C)) (byte cells : ℕ) (old new : Sheet) (was out : List ℕ) (told : Result ℕ Refusal) (next : Intake R S Q) : Type 0 where
       pub said : Result (Said C) Refusal
+      pub names : NamesStepsOf (cut_of next.cutter).line said
       pub taken : InputHistory (xs ++ (byte ∷ [])) (es ++ (line_event (cut_of next.cutter).line cells (reply_of said) old new ∷ [])) next
       pub prints : Prints shown next.machine said new was out told
 
@@ -64,6 +66,7 @@ module _ {R S Q C : Type 0} (k : Meaning R S Q C) (rule : R) (scale : S) (below 
     pub record LastDone (xs : List ℕ) (es : List (LineEvent C)) (cells : ℕ) (old new : Sheet) (was out : List ℕ) (told : Result ℕ Refusal) (m : Machine R S Q) : Type 0 where
       pub line : List ℕ
       pub said : Result (Said C) Refusal
+      pub names : NamesStepsOf line said
       pub done : InputDone xs (es ++ (line_event line cells (reply_of said) old new ∷ [])) m
       pub prints : Prints shown m said new was out told
 

@@ -6,6 +6,7 @@ use Rattle.track.specs.Layouts.{sections_of}
 use Rattle.roster.specs.Book.{Call, book_of}
 use Rattle.sheets.specs.declared.sheet.Sheet.{Sheet}
 use Rattle.frames.specs.Lines.{bytes_of}
+use Rattle.frames.specs.Frames.{read_as}
 use Rattle.planner.specs.Promise.{Reply, accepted, declined, planned, unless_declined, Kept}
 use Rattle.planner.specs.History.{Meaning, setting_of, Stands, says}
 use Rattle.planner.specs.declared.planner.Planner.{Planner}
@@ -33,6 +34,10 @@ NamesSteps steps (Err e) = Unit {0}
 -- a reply that tells a plan names the steps that the line asks for
 abbrev pub NamesStepsOf : {C : Type 0} → (line : List ℕ) → Result (Said C) Refusal → Type 0
 NamesStepsOf line r = NamesSteps (slice_index (bytes_of line) 1) r
+
+-- a line that is no frame is declined as it is read: with the place of its fault, where it is not pairs of digits
+abbrev pub DeclinedAsRead : {C : Type 0} → (line : List ℕ) → Result (Said C) Refusal → Type 0
+DeclinedAsRead line r = (e : Refusal) → read_as line ≡ Err e → r ≡ Err e
 
 module _ {R S Q C : Type 0} (k : Meaning R S Q C) (rule : R) (scale : S) (below : Q) where
   -- the planner that was made on a layout of what was drawn, with the rule, the scale and the search that the machine was made with

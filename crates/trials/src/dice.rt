@@ -9,7 +9,7 @@ pub struct Dice {
 impl Dice {
     // A number below `n`, or 0 where there is none.
     pub fn below(&mut self, n: u8) -> u8
-        ensures { 0 < n → result < n }
+        ensures below_what_is_asked_for { 0 < n → result < n }
     {
         self.state = self
             .state

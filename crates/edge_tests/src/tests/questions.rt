@@ -41,12 +41,10 @@ fn marks(rows: &[usize]) -> [bool; 8] {
 #[test]
 fn questions(rt: HostRuntime) -> Result<(), Fail> {
     let roster = two_trains()?;
-    let cases: [(u8, &[usize], usize, u8); 14] = [
+    let cases: [(u8, &[usize], usize, u8); 13] = [
         (20, &[0, 1], 1, 0),
         (20, &[1], 16, 0),
         (19, &[0], 1, 1),
-        // the train that has its goal off the layout is not of the group
-        (18, &[0], 1, 1),
         (20, &[2], 1, 17),
         (20, &[0, 7], 1, 17),
         (20, &[0], 0, 21),
@@ -68,6 +66,34 @@ fn questions(rt: HostRuntime) -> Result<(), Fail> {
             number,
             "{sections} {rows:?} {steps}"
         );
+    }
+    Ok(())
+}
+
+// A start or a goal that is just off the layout is enough, of a train of the group and of another.
+#[test]
+fn ends_off_the_layout(rt: HostRuntime) -> Result<(), Fail> {
+    for (start, goal) in [(19, 0), (0, 19)] {
+        let far = Train {
+            number: 1,
+            start,
+            goal,
+        };
+        let near = Train {
+            number: 2,
+            start: 1,
+            goal: 2,
+        };
+        let roster = Roster::of(&layout_of(20)?, &[far, near])?;
+        for (sections, rows, number) in [(20, [0], 0), (20, [1], 0), (19, [0], 1), (19, [1], 1)] {
+            let layout = layout_of(sections)?;
+            let answer = ask(&layout, &roster, marks(&rows), 1);
+            assert_eq!(rt;
+                number_of(answer.map(|_| ())),
+                number,
+                "{start} {goal} {sections} {rows:?}"
+            );
+        }
     }
     Ok(())
 }
