@@ -2,7 +2,7 @@ use std::process::Abort;
 use track::refusal::Refusal;
 
 // The number with which a call was declined, or 0.
-pub fn number_of(answer: Result<(), Refusal>) -> u8 {
+pub(crate) fn number_of(answer: Result<(), Refusal>) -> u8 {
     match answer {
         Ok(()) => 0,
         Err(refusal) => refusal.number(),
@@ -16,7 +16,7 @@ pub trait Act<O> {
 
 // Makes the calls of a script, each of which is to be declined with its number or, at 0, to pass: on `all` each of them, and those that are declined
 // twice; on `only` just those that pass.
-pub fn play<O, A: Act<O>>(rt: &impl Abort, script: &[(A, u8)], all: &mut O, only: &mut O) {
+pub(crate) fn play<O, A: Act<O>>(rt: &impl Abort, script: &[(A, u8)], all: &mut O, only: &mut O) {
     for (place, (act, number)) in script.iter().enumerate() {
         assert_eq!(rt; act.on(all), *number, "call {place}");
         if *number == 0 {
