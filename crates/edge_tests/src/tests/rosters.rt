@@ -202,3 +202,27 @@ fn closing_and_opening(rt: HostRuntime) -> Result<(), Fail> {
         ],
     )
 }
+
+// Asked with a smaller layout than the roster's own, a section off it comes before what the roster says of it: 1 before 18 and 19.
+#[test]
+fn a_smaller_layout(rt: HostRuntime) -> Result<(), Fail> {
+    let own = Desk::of(20)?.layout;
+    let smaller = Desk::of(18)?.layout;
+    let mut roster = Roster::of(
+        &own,
+        &[Train {
+            number: 5,
+            start: 19,
+            goal: 0,
+        }],
+    )?;
+    roster.close(&own, 18)?;
+    assert_eq!(rt; number_of(roster.close(&smaller, 18)), 1);
+    assert_eq!(rt; number_of(roster.close(&smaller, 19)), 1);
+    assert_eq!(rt; number_of(roster.open_again(&smaller, 18)), 1);
+    // nothing changed
+    assert_eq!(rt; number_of(roster.close(&own, 18)), 18);
+    assert_eq!(rt; number_of(roster.close(&own, 19)), 19);
+    assert_eq!(rt; roster.closed(), (1, Some(18)));
+    Ok(())
+}

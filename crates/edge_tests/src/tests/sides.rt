@@ -74,27 +74,28 @@ fn after_the_finish(rt: HostRuntime) -> Result<(), Fail> {
 // A frame on the wrong side leaves what is drawn, and what is entered, as it was.
 #[test]
 fn a_frame_on_the_wrong_side_changes_nothing(rt: HostRuntime) -> Result<(), Fail> {
-    // no train was entered before the finish
-    let early: [&[u8]; 5] = [DRAWN[0], DRAWN[1], b"05 00 07 00 01", b"04", b"07 01"];
-    assert_eq!(rt; last_of(&early), 22);
-    // no section was added after it, and the train stays
-    let late: [&[u8]; 6] = [
-        DRAWN[0],
-        DRAWN[1],
-        b"04",
-        b"05 00 07 00 01",
-        b"01 01",
-        b"05 00 09 00 02",
-    ];
-    assert_eq!(rt; last_of(&late), 1);
-    let again: [&[u8]; 6] = [
-        DRAWN[0],
-        DRAWN[1],
-        b"04",
-        b"05 00 07 00 01",
-        b"04",
-        b"07 01",
-    ];
-    assert_eq!(rt; last_of(&again), 0);
+    let early: [&[u8]; 3] = [b"05 00 07 00 01", b"06 00 07", b"07 01"];
+    for line in early {
+        // no train was entered before the finish
+        let empty: [&[u8]; 5] = [DRAWN[0], DRAWN[1], line, b"04", b"07 01"];
+        assert_eq!(rt; last_of(&empty), 22, "{line:?}");
+        let entered: [&[u8]; 6] = [DRAWN[0], DRAWN[1], line, b"04", b"05 00 07 00 01", b"07 01"];
+        assert_eq!(rt; last_of(&entered), 0, "{line:?}");
+    }
+    let late: [&[u8]; 4] = [b"01 01", b"02 00 01 00", b"03 00 01 00 01", b"04"];
+    for line in late {
+        // no section was added after it, and the train stays
+        let drawn: [&[u8]; 6] = [
+            DRAWN[0],
+            DRAWN[1],
+            b"04",
+            b"05 00 07 00 01",
+            line,
+            b"05 00 09 00 02",
+        ];
+        assert_eq!(rt; last_of(&drawn), 1, "{line:?}");
+        let stays: [&[u8]; 6] = [DRAWN[0], DRAWN[1], b"04", b"05 00 07 00 01", line, b"07 01"];
+        assert_eq!(rt; last_of(&stays), 0, "{line:?}");
+    }
     Ok(())
 }
