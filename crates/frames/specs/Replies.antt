@@ -21,10 +21,6 @@ train_bytes number stands steps = 16 ∷ (high_first number ++ map stands (range
 abbrev pub total_bytes : (cost : List ℕ) (groups : ℕ) → List ℕ
 total_bytes cost groups = 17 ∷ (cost ++ (groups ∷ []))
 
--- the number of the train of a row
-unfoldable pub number_at : Roster → ℕ → ℕ
-number_at o row = (slice_index_or (held o) row no_train).number
-
 -- a line for each of the first rows
 unfoldable pub train_lines : Roster → Sheet → (steps rows : ℕ) → List (List ℕ)
 train_lines o s steps rows = map (λ row. train_bytes (number_at o row) (plan_of s row) steps) (range_with_len 0 rows)

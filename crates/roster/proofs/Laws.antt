@@ -1,10 +1,10 @@
 -- What every roster keeps, said of its rows.
-use Rattle.std.proofs.Common.{◌≡◌, ℕ, zero, suc, ◌<◌, ◌≤◌, true, false, not, eqb, List, [], ◌∷◌, length, get_or, sym, refl, inl, inr, arith}
+use Rattle.std.proofs.Common.{◌≡◌, ℕ, zero, suc, ◌<◌, ◌≤◌, true, false, not, eqb, ltb, List, [], ◌∷◌, length, get_or, sym, refl, inl, inr, arith}
 use Rattle.std.specs.List.{slice_get}
 use Rattle.std.proofs.lemmas.Option.{slice_get-get_or, slice_get_past}
-use Rattle.std.proofs.lemmas.Bool.{cases_lt, and_parts, or_parts, not-true, eqb-false}
-use Rattle.roster.specs.Trains.{has, taken, apart_by, runs, all_open, start_of, goal_of}
-use Rattle.roster.specs.Model.{held, no_train, rows_of, start_at, goal_at, closed_of, RowIs, RosterLaws}
+use Rattle.std.proofs.lemmas.Bool.{cases_lt, and_parts, or_parts, not-true, eqb-false, ltb-true}
+use Rattle.roster.specs.Trains.{has, above, rising, taken, apart_by, runs, all_open, start_of, goal_of}
+use Rattle.roster.specs.Model.{held, no_train, rows_of, number_at, start_at, goal_at, closed_of, RowIs, RosterLaws}
 use Rattle.roster.specs.declared.train.Train.{Train}
 use Rattle.roster.specs.declared.roster.Roster.{Roster}
 
@@ -47,6 +47,21 @@ pub goals_differ : (o : Roster) (r q : ℕ) → r < q → q < rows_of o → goal
 unfolding rows_of goal_at
 goals_differ o r q i l e = apart_at goal_of (held o) r q no_train o.goals i l e
 
+above_at : (n : ℕ) (xs : List Train) (r : ℕ) (d : Train) → above n xs ≡ true → r < length xs → n < (get_or xs r d).number
+above_at n [] r d h l = absurd (omega arith)
+above_at n (x ∷ xs) zero d h l = ltb-true n x.number (and_parts (ltb n x.number) (above n xs) h).0
+above_at n (x ∷ xs) (suc r) d h l = above_at n xs r d (and_parts (ltb n x.number) (above n xs) h).1 (omega arith)
+
+rising_at : (xs : List Train) (r q : ℕ) (d : Train) → rising xs ≡ true → r < q → q < length xs → (get_or xs r d).number < (get_or xs q d).number
+rising_at [] r q d h i l = absurd (omega arith)
+rising_at (x ∷ xs) r zero d h i l = absurd (omega arith)
+rising_at (x ∷ xs) zero (suc q) d h i l = above_at x.number xs q d (and_parts (above x.number xs) (rising xs) h).0 (omega arith)
+rising_at (x ∷ xs) (suc r) (suc q) d h i l = rising_at xs r q d (and_parts (above x.number xs) (rising xs) h).1 (omega arith) (omega arith)
+
+pub numbers_rise : (o : Roster) (r q : ℕ) → r < q → q < rows_of o → number_at o r < number_at o q
+unfolding rows_of number_at
+numbers_rise o r q i l = rising_at (held o) r q no_train o.ordered i l
+
 row_here : (o : Roster) (row : ℕ) → row < length (held o) → RowIs o row (slice_get (held o) row)
 unfolding rows_of start_at goal_at
 row_here o row inside = rw (slice_get-get_or (held o) row no_train inside) (record { inside = inside; start = refl; goal = refl })
@@ -61,4 +76,4 @@ row_is o row = elim (cases_lt row (length (held o))) [ inl inside ↦ row_here o
 
 pub laws : (o : Roster) → RosterLaws o
 laws o =
-    record { rows_most = rows_most o; start_open = start_open o; goal_open = goal_open o; starts_differ = starts_differ o; goals_differ = goals_differ o }
+    record { rows_most = rows_most o; numbers_rise = numbers_rise o; start_open = start_open o; goal_open = goal_open o; starts_differ = starts_differ o; goals_differ = goals_differ o }

@@ -19,7 +19,10 @@ no_train = record { number = 0; start = 0; goal = 0 }
 unfoldable pub rows_of : Roster → ℕ
 rows_of o = length (held o)
 
--- the start and the goal of a row
+-- the number, the start and the goal of the train of a row
+unfoldable pub number_at : Roster → ℕ → ℕ
+number_at o r = (slice_index_or (held o) r no_train).number
+
 unfoldable pub start_at : Roster → ℕ → ℕ
 start_at o r = (slice_index_or (held o) r no_train).start
 
@@ -41,9 +44,10 @@ abbrev pub RowIs : Roster → ℕ → Option Train → Type 0
 RowIs o row (Some t) = OnRow o row t
 RowIs o row None = rows_of o ≤ row
 
--- at most eight trains, none with a closed start or goal, no two with one start, and no two with one goal
+-- at most eight trains in rising number, none with a closed start or goal, no two with one start, and no two with one goal
 pub record RosterLaws (o : Roster) : Type 0 where
   pub rows_most : rows_of o ≤ 8
+  pub numbers_rise : (r q : ℕ) → r < q → q < rows_of o → number_at o r < number_at o q
   pub start_open : (r : ℕ) → r < rows_of o → closed_of o (start_at o r) ≡ false
   pub goal_open : (r : ℕ) → r < rows_of o → closed_of o (goal_at o r) ≡ false
   pub starts_differ : (r q : ℕ) → r < q → q < rows_of o → start_at o r ≢ start_at o q

@@ -1,5 +1,6 @@
 ghost use Rattle.std.specs.Prelude.{◌≡◌};
 ghost use Rattle.track.specs.Layouts.{fouled};
+ghost use Rattle.track.specs.declared.layout.Layout.{Layout};
 ghost use Rattle.rules.specs.Conflicts.{clear_section};
 ghost use Rattle.track.proofs.Laws.{fouled_swapped};
 ghost use Rattle.rules.specs.Lawful.{clear_section_laws};
@@ -17,7 +18,10 @@ impl Rule for ClearSection {
 
     ghost lawful = { λ s l. clear_section_laws (fouled l) (fouled_swapped l) };
 
-    fn conflict(&self, layout: &Layout, one: Move, other: Move) -> bool {
+    fn conflict(&self, layout: &Layout, one: Move, other: Move) -> bool
+        ensures whether_the_moves_conflict { result ≡ clear_section (fouled layout.now) one.from one.to other.from other.to }
+        ensures it_means_clear_section { (l : Layout) → ⟦<ClearSection as Rule>⟧.conflicts self.now l ≡ clear_section (fouled l) }
+    {
         one.to == other.to
             || one.to == other.from
             || one.from == other.to

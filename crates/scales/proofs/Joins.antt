@@ -1,5 +1,5 @@
 -- Laws of costs joined over a range.
-use Rattle.std.proofs.Common.{◌≡◌, ℕ, zero, suc, ◌+◌, ◌*◌, ◌<◌, ◌≤◌, true, ◌⊎◌, sym, refl, ap, ◌∙◌, ap₂, inl, inr, true≢false, add-one, arith}
+use Rattle.std.proofs.Common.{◌≡◌, ℕ, zero, suc, ◌+◌, ◌*◌, ◌<◌, ◌≤◌, Bool, true, false, ◌⊎◌, sym, refl, ap, ◌∙◌, ap₂, inl, inr, true≢false, add-one, arith}
 use Rattle.scales.specs.Measure.{Measure, MeasureLaws, Fit, joined}
 
 -- one cost more
@@ -7,6 +7,11 @@ pub joined_more : {C : Type 0} (S : Measure C) (n : ℕ) (f : ℕ → C) → joi
 joined_more S n f = ap (λ (k : ℕ). joined S k f) (add-one n)
 
 module _ {C : Type 0} (S : Measure C) (L : MeasureLaws S) where
+  -- the price of any step: a train that stands at its goal runs over no points
+  pub price_small : (n : ℕ) (rests : Bool) → n ≤ 7 → (rests ≡ true → n ≡ 0) → S.size (S.price n rests) ≤ 16
+  price_small n true few still = omega (arith, ap (λ m. S.size (S.price m true)) (still refl), ap S.size L.price_rest, L.size_nothing)
+  price_small n false few still = L.size_price n few
+
   pub joined_size : (b n : ℕ) (f : ℕ → C) → ((i : ℕ) → i < n → S.size (f i) ≤ b) → n * b ≤ 65535 → S.size (joined S n f) ≤ n * b
   joined_size b zero f h m = omega (arith, L.size_nothing)
   joined_size b (suc n) f h m =

@@ -3,7 +3,6 @@ pub mod Steps
 pub mod Pairs
 pub mod Bytes
 pub mod Runs
-pub mod Cells
 pub mod StepLaws
 pub mod PairLaws
 pub mod Words

@@ -24,13 +24,13 @@ pub record MeasureLaws {C : Type 0} (S : Measure C) : Type 0 where
   pub join_assoc : (a b c : C) → S.size a + S.size b + S.size c ≤ 65535 → S.join (S.join a b) c ≡ S.join a (S.join b c)
   pub join_nothing : (a : C) → S.size a ≤ 65535 → S.join a S.nothing ≡ a
   pub join_lower : (a b c : C) → Fit S a c → Fit S b c → S.lower a b ≡ true → S.lower (S.join a c) (S.join b c) ≡ true
-  -- sizes add, and a price is small
+  -- sizes add, and the price of a step over at most 7 points is small
   pub size_nothing : S.size S.nothing ≡ 0
   pub size_join : (a b : C) → Fit S a b → S.size (S.join a b) ≡ S.size a + S.size b
-  pub size_price : (points : ℕ) (rests : Bool) → points ≤ 7 → S.size (S.price points rests) ≤ 16
-  -- standing at the goal costs nothing, and every other step more than nothing
-  pub price_rest : (points : ℕ) → S.price points true ≡ S.nothing
-  pub price_step : (points : ℕ) → S.lower S.nothing (S.price points false) ≡ true
+  pub size_price : (points : ℕ) → points ≤ 7 → S.size (S.price points false) ≤ 16
+  -- standing at the goal, which runs over no points, costs nothing, and every other step more than nothing
+  pub price_rest : S.price 0 true ≡ S.nothing
+  pub price_step : (points : ℕ) → points ≤ 7 → S.lower S.nothing (S.price points false) ≡ true
 
 -- the costs f 0, f 1, .. f (n - 1) joined
 abbrev pub joined : {C : Type 0} → Measure C → ℕ → (ℕ → C) → C

@@ -1,13 +1,9 @@
 -- The scale of steps keeps the laws.
-use Rattle.std.specs.Prelude.{ℕ, ◌≤◌, Bool, true, false, cond, refl}
+use Rattle.std.specs.Prelude.{refl}
 use Rattle.std.proofs.Common.{inl, inr, ⊎_elim, arith, ltb-true, lt-ltb, le-ltb}
 use Rattle.std.proofs.lemmas.Bool.{cases_order}
 use Rattle.scales.specs.Measure.{MeasureLaws}
 use Rattle.scales.specs.Steps.{steps, plus}
-
-small : (p : ℕ) (h : Bool) → p ≤ 7 → cond h 0 1 ≤ 16
-small p true l = omega arith
-small p false l = omega arith
 
 pub steps_laws : MeasureLaws steps
 steps_laws = record {
@@ -20,7 +16,7 @@ steps_laws = record {
   join_lower = λ a b c h k p. lt-ltb (plus a c) (plus b c) (omega (arith, ltb-true a b p));
   size_nothing = refl;
   size_join = λ a b h. omega arith;
-  size_price = small;
-  price_rest = λ p. refl;
-  price_step = λ p. refl;
+  size_price = λ p h. omega arith;
+  price_rest = refl;
+  price_step = λ p h. refl;
 }

@@ -1,5 +1,4 @@
 ghost use Rattle.std.specs.Prelude.{◌≡◌};
-ghost use Rattle.scales.specs.Cells.{RunFits};
 ghost use Rattle.scales.specs.Measure.{Measure, MeasureLaws};
 
 // A scale, by the measure that it stands for. Every measure keeps the laws.
@@ -22,7 +21,4 @@ pub trait Scale {
         ensures the_price_of_the_step { result ≡ (measure self.now).price points rests };
 
     ghost lawful: { (s : Self) → MeasureLaws (measure s) };
-
-    // a run of cells fits in memory
-    ghost small: { RunFits Self.Cost.row };
 }

@@ -1,7 +1,6 @@
 ghost use Rattle.std.specs.Prelude.{◌≡◌};
 ghost use Rattle.scales.specs.Steps.{steps};
 ghost use Rattle.scales.specs.StepLaws.{steps_laws};
-ghost use Rattle.std.proofs.Common.{rules};
 
 use crate::scale::Scale;
 
@@ -16,8 +15,6 @@ impl Scale for Steps {
 
     ghost lawful = { λ s. steps_laws };
 
-    ghost small = { Prim.search rules };
-
     fn lower(&self, a: u16, b: u16) -> bool {
         a < b
     }
@@ -30,7 +27,12 @@ impl Scale for Steps {
         0
     }
 
-    fn price(&self, _points: u8, rests: bool) -> u16 {
+    fn price(&self, points: u8, rests: bool) -> u16
+        ensures the_price_of_the_step { result ≡ steps.price points rests }
+        ensures its_measure_is_steps { ⟦<Steps as Scale>⟧.measure self.now ≡ steps }
+    {
+        // every priced step costs 1, over however many points
+        let _ = points;
         if rests {
             return self.nothing();
         }

@@ -1,7 +1,6 @@
 ghost use Rattle.std.specs.Prelude.{◌≡◌};
 ghost use Rattle.scales.specs.Pairs.{pairs};
 ghost use Rattle.scales.specs.PairLaws.{pairs_laws};
-ghost use Rattle.std.proofs.Common.{rules};
 
 use crate::pair::Pair;
 use crate::scale::Scale;
@@ -16,8 +15,6 @@ impl Scale for StepsThenPoints {
     ghost measure = { λ _. pairs };
 
     ghost lawful = { λ s. pairs_laws };
-
-    ghost small = { Prim.search rules };
 
     fn lower(&self, a: Pair, b: Pair) -> bool {
         a < b
@@ -34,7 +31,10 @@ impl Scale for StepsThenPoints {
         Pair::of(0, 0)
     }
 
-    fn price(&self, points: u8, rests: bool) -> Pair {
+    fn price(&self, points: u8, rests: bool) -> Pair
+        ensures the_price_of_the_step { result ≡ pairs.price points rests }
+        ensures its_measure_is_steps_then_points { ⟦<StepsThenPoints as Scale>⟧.measure self.now ≡ pairs }
+    {
         // `Steps` begins alike: only the test is common, as each scale has its own number for a step.
         if rests {
             return self.nothing();

@@ -8,9 +8,12 @@ use Rattle.sheets.specs.declared.sheet.Sheet.{Sheet}
 use Rattle.search.specs.declared.answer.Unplanned.{Unplanned}
 use Rattle.search.specs.declared.answer.Unplanned.TheVariants.{BeyondReach, NoSheet}
 
--- a group of one train, with a cell for each section and time
+-- a group of one train, with a cell for each section and time, in a question that there can be: on at most 32 sections, over 1 to 16 steps
 pub record OneTrain {C : Type 0} (i : Inquiry C) (cells : ℕ) : Type 0 where
   pub one : trains i ≡ 1
+  pub few_sections : i.problem.sections ≤ 32
+  pub some_steps : 1 ≤ i.problem.steps
+  pub few_steps : i.problem.steps ≤ 16
   pub room : i.problem.sections * (i.problem.steps + 1) ≤ cells
 
 -- the same groups are taken, whatever is asked and with any number of cells

@@ -1,9 +1,16 @@
 -- The costs of groups.
-use Rattle.std.proofs.Common.{◌≡◌, ℕ, ◌+◌, ◌≤◌, Bool, true, false, cond, refl, arith}
+use Rattle.std.proofs.Common.{◌≡◌, ℕ, ◌+◌, ◌≤◌, Bool, true, false, cond, ◌&&◌, eqb, refl, sym, ◌∙◌, arith}
 use Rattle.scales.specs.Measure.{Measure, MeasureLaws}
-use Rattle.sheets.specs.Problem.{Group, Problem, ProblemLaws}
+use Rattle.sheets.specs.Problem.{Group, Problem, ProblemLaws, run_over}
 use Rattle.sheets.specs.Plan.{Plan, SameOn, step_cost, row_cost, cost}
-use Rattle.scales.proofs.Joins.{joined_size, joined_same}
+use Rattle.scales.proofs.Joins.{joined_size, joined_same, price_small}
+use Rattle.std.proofs.lemmas.Bool.{and_parts, cond-true, eqb-true, eq-eqb}
+
+-- a train that stands at its goal through a step runs over no points
+pub still_runs_none : (Q : Problem) (a b g : ℕ) → (eqb a g && eqb b g) ≡ true → run_over Q a b ≡ 0
+still_runs_none Q a b g h =
+    let p = and_parts (eqb a g) (eqb b g) h in
+    cond-true (eqb a b) 0 _ (eq-eqb a b (eqb-true a g p.0 ∙ sym (eqb-true b g p.1)))
 
 -- what is only looked at where a test is true
 gate : {C : Type 0} (b : Bool) (v w n : C) → (b ≡ true → v ≡ w) → cond b v n ≡ cond b w n
@@ -11,11 +18,14 @@ gate true v w n h = h refl
 gate false v w n h = refl
 
 module _ {C : Type 0} (S : Measure C) (L : MeasureLaws S) (Q : Problem) (K : ProblemLaws Q) where
+  pub step_size : (x : Plan) (r t : ℕ) → S.size (step_cost S Q x r t) ≤ 16
+  step_size x r t = price_small S L _ _ (K.points_most _ _) (still_runs_none Q (x r t) (x r (t + 1)) (Q.goal r))
+
   pub row_size : (x : Plan) (r : ℕ) → S.size (row_cost S Q x r) ≤ 256
   unfolding row_cost
   row_size x r =
       let k = K.steps_most in
-      omega (arith, joined_size S L 16 Q.steps (step_cost S Q x r) (λ t h. L.size_price _ _ (K.points_most _ _)) (omega arith))
+      omega (arith, joined_size S L 16 Q.steps (step_cost S Q x r) (λ t h. step_size x r t) (omega arith))
 
   pub gated_size : (b : Bool) (x : Plan) (r : ℕ) → S.size (cond b (row_cost S Q x r) S.nothing) ≤ 256
   gated_size true x r = row_size x r

@@ -83,7 +83,6 @@ posed_of conflicts q =
     let s = sound q in
     let o = q.roster.now in
     record {
-      steps_some = s.steps_some;
       start_inside = λ r h. ltb-true _ _ (and_parts _ _ (row_on q r h)).0;
       start_open = start_open o;
       goal_inside = λ r h. ltb-true _ _ (and_parts _ _ (row_on q r h)).1;

@@ -5,7 +5,7 @@ use Rattle.track.specs.Layouts.{sections_of, look}
 use Rattle.track.specs.declared.layout.Layout.{Layout}
 use Rattle.rules.specs.Conflicts.{Conflicts}
 use Rattle.scales.specs.Measure.{Measure}
-use Rattle.roster.specs.Model.{rows_of, start_at, goal_at, closed_of}
+use Rattle.roster.specs.Model.{rows_of, number_at, start_at, goal_at, closed_of}
 use Rattle.roster.specs.declared.roster.Roster.{Roster}
 use Rattle.sheets.specs.Problem.{Problem, Group, count}
 use Rattle.sheets.specs.Plan.{Plan}
@@ -38,15 +38,19 @@ problem_of conflicts l o steps = record {
 abbrev pub problem_asked : Conflicts → Question → Problem
 problem_asked conflicts q = problem_of conflicts q.layout.now q.roster.now q.steps
 
--- what a search is asked: the scale's measure, the problem, and the group
+-- what a search is asked: the scale's measure, the layout as it is, the numbers of the rows' trains, the problem, and the group
 pub record Inquiry (C : Type 0) : Type 0 where
   pub measure : Measure C
+  pub layout : Layout
+  pub number : ℕ → ℕ
   pub problem : Problem
   pub group : Group
 
 abbrev pub inquiry : {C : Type 0} → (Layout → Conflicts) → Measure C → Question → Inquiry C
 inquiry conflicts m q = record {
   measure = m;
+  layout = q.layout.now;
+  number = number_at q.roster.now;
   problem = problem_of (conflicts q.layout.now) q.layout.now q.roster.now q.steps;
   group = marked q.group;
 }

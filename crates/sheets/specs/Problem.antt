@@ -50,9 +50,8 @@ pub record ProblemLaws (Q : Problem) : Type 0 where
   pub points_most : (a b : ℕ) → run_over Q a b ≤ 7
   pub rule : RuleLaws Q.conflicts
 
--- there is a step, and starts and goals are open sections of the layout
+-- starts and goals are open sections of the layout
 pub record Posed (Q : Problem) : Type 0 where
-  pub steps_some : 1 ≤ Q.steps
   pub start_inside : (r : ℕ) → r < Q.rows → Q.start r < Q.sections
   pub start_open : (r : ℕ) → r < Q.rows → Q.closed (Q.start r) ≡ false
   pub goal_inside : (r : ℕ) → r < Q.rows → Q.goal r < Q.sections

@@ -1,4 +1,4 @@
-ghost use Rattle.std.specs.Prelude.{◌≡◌, ◌+◌, ◌&&◌, ◌==◌, slice_index};
+ghost use Rattle.std.specs.Prelude.{◌≡◌, ◌+◌, ◌≤◌, ◌&&◌, ◌==◌, slice_index};
 ghost use Rattle.rules.specs.Conflicts.{Conflicts};
 ghost use Rattle.scales.specs.Measure.{joined};
 ghost use Rattle.sheets.specs.Plan.{cost};
@@ -47,6 +47,7 @@ fn steps_cost<S: Scale>(scale: &S, question: &Question, sections: [u8; 17], goal
 
 // What a sheet costs for the question's group.
 pub fn sheet_cost<S: Scale>(scale: &S, question: &Question, sheet: &Sheet) -> S::Cost
+    ensures at_most_2048_in_size { (S.Scale.measure scale.now).size result ≤ 2048 }
     ensures the_prices_of_all_steps_of_the_group_joined { (k : Conflicts) → result ≡ cost (S.Scale.measure scale.now) (problem_asked k question.now) (marked question.now.group) (plan_of sheet.now) }
 {
     let mut total = scale.nothing();

@@ -1,5 +1,5 @@
 -- The numbers of the refusals, and what a refused call leaves.
-use Rattle.std.specs.Prelude.{ℕ, Bool, cond, Some, None, Ok, Err, Option, Result}
+use Rattle.std.specs.Prelude.{◌≡◌, ℕ, Bool, cond, Some, None, Ok, Err, Option, Result}
 use Rattle.track.specs.declared.refusal.Refusal.{Refusal}
 use Rattle.track.specs.declared.refusal.Refusal.TheVariants.{
   NoSuchSection,
@@ -79,6 +79,11 @@ refused_by (Err e) = Some (number_of e)
 abbrev pub granted : {A B : Type 0} → Result A Refusal → B → B → B
 granted (Ok a) new old = new
 granted (Err e) new old = old
+
+-- a declined call leaves what it was made on as it was
+abbrev pub AsItWas : {A T : Type 0} → Result A Refusal → (old new : T) → Type 0
+AsItWas (Ok a) old new = Unit {0}
+AsItWas (Err e) old new = new ≡ old
 
 -- the first where no reason declined the call, otherwise the second
 abbrev pub unless : {A : Type 0} → Option ℕ → (new old : A) → A

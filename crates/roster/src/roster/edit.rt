@@ -1,6 +1,6 @@
 ghost use Rattle.std.specs.Prelude.{◌≡◌, ℕ, IfOk};
 ghost use Rattle.track.specs.Layouts.{sections_of};
-ghost use Rattle.track.specs.Refusals.{refused_by, granted};
+ghost use Rattle.track.specs.Refusals.{refused_by, granted, AsItWas};
 ghost use Rattle.roster.specs.Book.{empty, declined, changed, first_declined, entered_all};
 ghost use Rattle.roster.specs.Book.Call.{enter, withdraw, possess, give_up};
 ghost use Rattle.roster.specs.Model.{seen, RosterLaws};
@@ -44,7 +44,8 @@ impl Roster {
     // Enters a train, at its place in the order of numbers.
     pub fn enter(&mut self, layout: &Layout, train: Train) -> Result<(), Refusal>
         ensures the_first_condition_met_declines { refused_by result ≡ declined (sections_of layout.now) (seen self.old) (enter train.number train.start train.goal) }
-        ensures a_refusal_changes_nothing { seen self.new ≡ granted result (changed (seen self.old) (enter train.number train.start train.goal)) (seen self.old) }
+        ensures just_the_train_is_entered_or_nothing { seen self.new ≡ granted result (changed (seen self.old) (enter train.number train.start train.goal)) (seen self.old) }
+        ensures a_declined_call_leaves_the_roster_as_it_was { AsItWas result self.old self.new }
     {
         let Train {
             number,
@@ -81,7 +82,8 @@ impl Roster {
     // Takes the train with this number off the roster.
     pub fn withdraw(&mut self, number: u16) -> Result<(), Refusal>
         ensures the_first_condition_met_declines { (n : ℕ) → refused_by result ≡ declined n (seen self.old) (withdraw number) }
-        ensures a_refusal_changes_nothing { seen self.new ≡ granted result (changed (seen self.old) (withdraw number)) (seen self.old) }
+        ensures just_the_train_is_taken_out_or_nothing { seen self.new ≡ granted result (changed (seen self.old) (withdraw number)) (seen self.old) }
+        ensures a_declined_call_leaves_the_roster_as_it_was { AsItWas result self.old self.new }
     {
         if out_of_range(number) {
             return Err(Refusal::TrainNumberOutOfRange);
@@ -96,7 +98,8 @@ impl Roster {
     // Closes a section, on which no train starts or ends.
     pub fn close(&mut self, layout: &Layout, section: u8) -> Result<(), Refusal>
         ensures the_first_condition_met_declines { refused_by result ≡ declined (sections_of layout.now) (seen self.old) (possess section) }
-        ensures a_refusal_changes_nothing { seen self.new ≡ granted result (changed (seen self.old) (possess section)) (seen self.old) }
+        ensures just_the_section_is_closed_or_nothing { seen self.new ≡ granted result (changed (seen self.old) (possess section)) (seen self.old) }
+        ensures a_declined_call_leaves_the_roster_as_it_was { AsItWas result self.old self.new }
     {
         if section >= layout.sections() {
             return Err(Refusal::NoSuchSection);
@@ -114,7 +117,8 @@ impl Roster {
     // Opens a closed section again.
     pub fn open_again(&mut self, layout: &Layout, section: u8) -> Result<(), Refusal>
         ensures the_first_condition_met_declines { refused_by result ≡ declined (sections_of layout.now) (seen self.old) (give_up section) }
-        ensures a_refusal_changes_nothing { seen self.new ≡ granted result (changed (seen self.old) (give_up section)) (seen self.old) }
+        ensures just_the_section_is_opened_or_nothing { seen self.new ≡ granted result (changed (seen self.old) (give_up section)) (seen self.old) }
+        ensures a_declined_call_leaves_the_roster_as_it_was { AsItWas result self.old self.new }
     {
         if section >= layout.sections() {
             return Err(Refusal::NoSuchSection);

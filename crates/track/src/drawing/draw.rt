@@ -1,7 +1,7 @@
 ghost use Rattle.std.specs.Prelude.{◌≡◌};
 ghost use Rattle.track.specs.Layouts.{LayoutLaws};
 ghost use Rattle.track.specs.Model.{drawn, laid, blank, BothWays, sections_declined, link_declined, foul_declined, widened, with_link, with_foul};
-ghost use Rattle.track.specs.Refusals.{refused_by, granted};
+ghost use Rattle.track.specs.Refusals.{refused_by, granted, AsItWas};
 
 use crate::drawing::Drawing;
 use crate::foul::Foul;
@@ -34,7 +34,8 @@ impl Drawing {
     // Adds `k` sections, numbered on from those that are there.
     pub fn add_sections(&mut self, k: u8) -> Result<(), Refusal>
         ensures the_first_condition_met_declines { refused_by result ≡ sections_declined (drawn self.old) k }
-        ensures a_refusal_changes_nothing { drawn self.new ≡ granted result (widened (drawn self.old) k) (drawn self.old) }
+        ensures its_sections_are_added_or_nothing { drawn self.new ≡ granted result (widened (drawn self.old) k) (drawn self.old) }
+        ensures a_declined_call_leaves_the_drawing_as_it_was { AsItWas result self.old self.new }
     {
         if k > 32 - self.sections {
             return Err(Refusal::TooManySections);
@@ -47,7 +48,8 @@ impl Drawing {
     // The arguments are the numbers of a frame in their order: a `Link` made for the call would say no more.
     pub fn add_link(&mut self, a: u8, b: u8, points: u8) -> Result<(), Refusal>
         ensures the_first_condition_met_declines { refused_by result ≡ link_declined (drawn self.old) a b points }
-        ensures a_refusal_changes_nothing { drawn self.new ≡ granted result (with_link (drawn self.old) a b points) (drawn self.old) }
+        ensures its_link_is_added_or_nothing { drawn self.new ≡ granted result (with_link (drawn self.old) a b points) (drawn self.old) }
+        ensures a_declined_call_leaves_the_drawing_as_it_was { AsItWas result self.old self.new }
     {
         if a >= self.sections || b >= self.sections {
             return Err(Refusal::NoSuchSection);
@@ -72,7 +74,8 @@ impl Drawing {
     // The arguments are the numbers of a frame in their order: a `Foul` made for the call would say no more.
     pub fn add_foul(&mut self, a: u8, b: u8, c: u8, d: u8) -> Result<(), Refusal>
         ensures the_first_condition_met_declines { refused_by result ≡ foul_declined (drawn self.old) a b c d }
-        ensures a_refusal_changes_nothing { drawn self.new ≡ granted result (with_foul (drawn self.old) a b c d) (drawn self.old) }
+        ensures its_foul_is_added_or_nothing { drawn self.new ≡ granted result (with_foul (drawn self.old) a b c d) (drawn self.old) }
+        ensures a_declined_call_leaves_the_drawing_as_it_was { AsItWas result self.old self.new }
     {
         let foul = Foul { a, b, c, d };
         let n = self.sections;

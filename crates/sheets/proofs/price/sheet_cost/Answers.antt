@@ -1,4 +1,4 @@
-use Rattle.std.proofs.Common.{◌≡◌, ℕ, cond, false, length, get_or, sym, ap, ◌∙◌, ap₂, arith}
+use Rattle.std.proofs.Common.{◌≡◌, ℕ, ◌≤◌, cond, false, length, get_or, refl, sym, ap, ◌∙◌, ap₂, subst, arith}
 use Rattle.std.proofs.lemmas.Bool.{cond-true, cond-false}
 use Rattle.std.proofs.lemmas.Iterator.{YieldsList-from_slice, YieldsList-from_zip}
 use Rattle.std.proofs.lemmas.Iterator.Consumers.{YieldsList-at, YieldsList-turn, YieldsList-end}
@@ -11,6 +11,10 @@ use Rattle.scales.proofs.Joins.{joined_more}
 use Rattle.sheets.specs.Plan.{cost, row_cost}
 use Rattle.sheets.specs.Posing.{marked}
 use Rattle.sheets.specs.Inquiry.{problem_asked, plan_of}
+use Rattle.rules.specs.Conflicts.{Conflicts, following}
+use Rattle.rules.specs.Lawful.{following_laws}
+use Rattle.sheets.proofs.Costs.{cost_size}
+use Rattle.sheets.proofs.Posed.{laws_of}
 use Rattle.sheets.proofs.Rows.{of_row, row_told}
 use Rattle.sheets.proofs.price.sheet_cost.Goals as goal
 use Rattle.sheets.proofs.price.sheet_cost.Goals.{then-member, else-member}
@@ -42,18 +46,25 @@ loop-train-preserved g c k =
 
 pub returns : goal.returns
 unfolding cost
-returns g c = record {
-  the_prices_of_all_steps_of_the_group_joined = λ k.
-      let S = g.S.Scale.measure c.args.scale.now in
-      let q = c.args.question.now in
-      let all = YieldsList-end
-      (YieldsList-at c.into_iter-train-iterator.ensures.into_iter_gives
-      (YieldsList-from_zip
-      (YieldsList-at c.zip-train-items.ensures.first (YieldsList-from_zip (YieldsList-at c.zip.ensures.first (YieldsList-from_slice c.trains.result.now cc)) (YieldsList-from_slice c.marks.result.now cc)))
-      (YieldsList-from_slice c.args.sheet.now.rows cc)))
-      c.loop-train.yielded _ c.loop-train.yielded_by _ c.next.new.self c.in-None.is c.next.ensures.steps in
-      let eight : length c.args.sheet.now.rows ≡ 8 = omega arith in
-      let e : length c.loop-train.yielded ≡ rows_of q.roster.now = omega (arith, all.1, length-zip (zip c.trains.result.now c.marks.result.now) c.args.sheet.now.rows, length-zip c.trains.result.now c.marks.result.now, eight, c.marks.ensures.one_mark_for_each_train, c.trains.ensures.as_many_as_there_are_rows, c.trains.ensures.at_most_eight) in
-      c.loop-train.invariant k
-      ∙ ap (λ (n : ℕ). joined S n (λ r. cond (marked q.group r) (row_cost S (problem_asked k q) (plan_of c.args.sheet.now) r) S.nothing)) e;
-}
+returns g c =
+    let S = g.S.Scale.measure c.args.scale.now in
+    let q = c.args.question.now in
+    let x = plan_of c.args.sheet.now in
+    let all =
+    YieldsList-end
+    (YieldsList-at c.into_iter-train-iterator.ensures.into_iter_gives
+    (YieldsList-from_zip
+    (YieldsList-at c.zip-train-items.ensures.first (YieldsList-from_zip (YieldsList-at c.zip.ensures.first (YieldsList-from_slice c.trains.result.now cc)) (YieldsList-from_slice c.marks.result.now cc)))
+    (YieldsList-from_slice c.args.sheet.now.rows cc)))
+    c.loop-train.yielded _ c.loop-train.yielded_by _ c.next.new.self c.in-None.is c.next.ensures.steps in
+    let eight : length c.args.sheet.now.rows ≡ 8 = omega arith in
+    let e : length c.loop-train.yielded ≡ rows_of q.roster.now = omega (arith, all.1, length-zip (zip c.trains.result.now c.marks.result.now) c.args.sheet.now.rows, length-zip c.trains.result.now c.marks.result.now, eight, c.marks.ensures.one_mark_for_each_train, c.trains.ensures.as_many_as_there_are_rows, c.trains.ensures.at_most_eight) in
+    let whole : (k : Conflicts) → c.loop-train.total ≡ joined S (rows_of q.roster.now) (λ r. cond (marked q.group r) (row_cost S (problem_asked k q) x r) S.nothing) =
+    λ k. c.loop-train.invariant k
+    ∙ ap (λ (n : ℕ). joined S n (λ r. cond (marked q.group r) (row_cost S (problem_asked k q) x r) S.nothing)) e in
+    let still : Conflicts = λ a b c d. false in
+    let laws = laws_of (following still) (following_laws still (λ a b c d. refl)) q in
+    record {
+      at_most_2048_in_size = subst (λ v. S.size v ≤ 2048) (sym (whole (following still))) (cost_size S (g.met.S.Scale.lawful c.args.scale.now) (problem_asked (following still) q) laws (marked q.group) x);
+      the_prices_of_all_steps_of_the_group_joined = whole;
+    }

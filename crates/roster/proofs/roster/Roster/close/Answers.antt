@@ -37,5 +37,6 @@ returns c =
     let e4 : taken goal_of s (held r) ≡ false = sym c.if-goal_taken.ensures.whether_a_train_has_the_goal in
     record {
       the_first_condition_met_declines = simp (e1, e2, e3, e4);
-      a_refusal_changes_nothing = ap (λ (f : ℕ → Bool). record { trains = held r; closed = f }) (fun_ext (put r.closed s (omega arith)));
+      a_declined_call_leaves_the_roster_as_it_was = tt;
+      just_the_section_is_closed_or_nothing = ap (λ (f : ℕ → Bool). record { trains = held r; closed = f }) (fun_ext (put r.closed s (omega arith)));
     }

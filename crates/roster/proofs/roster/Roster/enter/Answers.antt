@@ -45,4 +45,4 @@ returns c =
     let e5 : has r.closed t.start ≡ false = sym c.if-has.ensures.whether_the_bit_is_set in
     let e7 : has r.closed t.goal ≡ false = sym c.if-has-2.ensures.whether_the_bit_is_set in
     let e6 : leb 8 (length (held r)) ≡ false = let v = c.count.ensures.as_many_as_the_book_has in grind (arith, nat_tests) in
-    record { the_first_condition_met_declines = simp (e1, e0, e2, e5, e7, e3, e4, e6); a_refusal_changes_nothing = ap (λ (l : List Train). record { trains = l; closed = has r.closed }) e }
+    record { the_first_condition_met_declines = simp (e1, e0, e2, e5, e7, e3, e4, e6); a_declined_call_leaves_the_roster_as_it_was = tt; just_the_train_is_entered_or_nothing = ap (λ (l : List Train). record { trains = l; closed = has r.closed }) e }

@@ -22,7 +22,7 @@ loop-train-preserved c =
     let b = seen c.loop-train.roster in
     let l : i < length ts = omega arith in
     let a = sym c.in_ok-enter.ensures.the_first_condition_met_declines in
-    let e = c.in_ok-enter.ensures.a_refusal_changes_nothing in (
+    let e = c.in_ok-enter.ensures.just_the_train_is_entered_or_nothing in (
       ap (λ (k : Book). first_declined n k (drop (i + 1) ts)) e ∙ sym (first_on n b ts i _ l a) ∙ c.loop-train.invariant.0,
       ap (λ (k : Book). entered_all n k (drop (i + 1) ts)) e ∙ sym (all_on n b ts i _ l a) ∙ c.loop-train.invariant.1,
     )

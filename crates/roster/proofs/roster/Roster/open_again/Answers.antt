@@ -36,5 +36,6 @@ returns c =
     let h : has r.closed s ≡ true = sym c.if-not-has.ensures.whether_the_bit_is_set in
     record {
       the_first_condition_met_declines = simp (e1, h);
-      a_refusal_changes_nothing = ap (λ (f : ℕ → Bool). record { trains = held r; closed = f }) (fun_ext (put r.closed s (omega arith) h));
+      a_declined_call_leaves_the_roster_as_it_was = tt;
+      just_the_section_is_opened_or_nothing = ap (λ (f : ℕ → Bool). record { trains = held r; closed = f }) (fun_ext (put r.closed s (omega arith) h));
     }

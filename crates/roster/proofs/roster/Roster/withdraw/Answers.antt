@@ -41,11 +41,11 @@ returns c =
     let z : c.in-Some.row ≡ c.in-Some.row - 0 = omega arith in
     let e : c.remove.new.self ≡ without v (held r) = c.remove.ensures.the_item_is_gone ∙ ap (λ (i : ℕ). remove (held r) i) z ∙ g.is in
     let n : no_number v ≡ false = sym c.if-out_of_range.ensures.whether_no_train_has_such_a_number in
-    record { the_first_condition_met_declines = λ k. simp (n, g.there); a_refusal_changes_nothing = ap (λ (l : List _). record { trains = l; closed = has r.closed }) e }
+    record { the_first_condition_met_declines = λ k. simp (n, g.there); a_declined_call_leaves_the_roster_as_it_was = tt; just_the_train_is_taken_out_or_nothing = ap (λ (l : List _). record { trains = l; closed = has r.closed }) e }
 
 pub returns-in_default : goal.returns-in_default
 returns-in_default c =
     let v = c.args.number in
     let g = absent v (held c.args.self.now) 0 (sym c.find.ensures.the_first_row_with_the_number ∙ none _ c.in_default.not-Some) in
     let n : no_number v ≡ false = sym c.if-out_of_range.ensures.whether_no_train_has_such_a_number in
-    record { the_first_condition_met_declines = λ k. simp (n, g.there); a_refusal_changes_nothing = refl }
+    record { the_first_condition_met_declines = λ k. simp (n, g.there); a_declined_call_leaves_the_roster_as_it_was = refl; just_the_train_is_taken_out_or_nothing = refl }
