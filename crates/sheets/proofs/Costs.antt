@@ -18,14 +18,14 @@ gate true v w n h = h refl
 gate false v w n h = refl
 
 module _ {C : Type 0} (S : Measure C) (L : MeasureLaws S) (Q : Problem) (K : ProblemLaws Q) where
-  pub step_size : (x : Plan) (r t : ℕ) → S.size (step_cost S Q x r t) ≤ 16
-  step_size x r t = price_small S L _ _ (K.points_most _ _) (still_runs_none Q (x r t) (x r (t + 1)) (Q.goal r))
+  pub step_cost_size : (x : Plan) (r t : ℕ) → S.size (step_cost S Q x r t) ≤ 16
+  step_cost_size x r t = price_small S L _ _ (K.points_most _ _) (still_runs_none Q (x r t) (x r (t + 1)) (Q.goal r))
 
   pub row_size : (x : Plan) (r : ℕ) → S.size (row_cost S Q x r) ≤ 256
   unfolding row_cost
   row_size x r =
       let k = K.steps_most in
-      omega (arith, joined_size S L 16 Q.steps (step_cost S Q x r) (λ t h. step_size x r t) (omega arith))
+      omega (arith, joined_size S L 16 Q.steps (step_cost S Q x r) (λ t h. step_cost_size x r t) (omega arith))
 
   pub gated_size : (b : Bool) (x : Plan) (r : ℕ) → S.size (cond b (row_cost S Q x r) S.nothing) ≤ 256
   gated_size true x r = row_size x r

@@ -133,12 +133,3 @@ module _ {C : Type 0} (S : Measure C) (L : MeasureLaws S) where
       let f : S.lower (S.join s d) b ≡ false = not_lower (S.join s d) b (no_higher_trans S L b s (S.join s d) (no_higher S L b s (not-true _ e)) up') in
       simp f
 
-  pub nothing_over : (p d : C) → S.size p + S.size d ≤ 65535 → NoHigher S L S.nothing p → NoHigher S L S.nothing d → NoHigher S L S.nothing (S.join p d)
-  nothing_over p d h np nd =
-      let e : S.join p S.nothing ≡ p = L.join_nothing p (omega arith) in
-      let up : NoHigher S L p (S.join p d) = subst (λ v. NoHigher S L v (S.join p d)) e (join_right_no_higher S L p S.nothing d (omega (arith, L.size_nothing)) (omega arith) nd) in
-      no_higher_trans S L S.nothing p (S.join p d) np up
-
-  pub price_over : (n : ℕ) (b : Bool) → NoHigher S L S.nothing (S.price n b)
-  price_over n true = inl (sym (L.price_rest n))
-  price_over n false = inr (L.price_step n)

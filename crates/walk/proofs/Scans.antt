@@ -1,22 +1,21 @@
 -- The walk from a place on: what a turn of its loop, its end and its cuts show.
-use Rattle.std.proofs.Common.{◌≡◌, ℕ, zero, suc, ◌+◌, ◌-◌, ◌*◌, ◌<◌, ◌≤◌, Bool, true, false, cond, List, [], ◌∷◌, length, take, drop, set, Some, None, Option, sym, refl, ap, ◌∙◌, subst, ap₂, inl, mul-zero, add-one, arith, length-set, length-take-le}
+use Rattle.std.proofs.Common.{◌≡◌, ℕ, zero, suc, ◌+◌, ◌-◌, ◌*◌, ◌<◌, ◌≤◌, Bool, true, false, cond, List, [], ◌∷◌, length, take, drop, set, Some, None, Option, sym, refl, ap, ◌∙◌, subst, ap₂, mul-zero, add-one, arith, length-set, length-take-le}
 use Rattle.std.specs.Bool.{then_some}
 use Rattle.std.specs.Option.{option_or}
 use Rattle.std.proofs.lemmas.Bool.{not-false}
 use Rattle.scales.specs.Measure.{Measure, MeasureLaws}
-use Rattle.words.specs.Words.{Process, Run, spent, under, with, least, first, rest, best}
-use Rattle.words.specs.Joint.{Task, Joint, turned, may_move, move_price, home, process}
-use Rattle.words.proofs.Least.{NoHigher}
-use Rattle.words.proofs.BestWords.{rest_size, answers, spent_size}
+use Rattle.words.specs.Words.{under, with, least, first, rest, best}
+use Rattle.words.specs.Joint.{Task, Joint, RunsFew, turned, may_move, move_price, home, process}
+use Rattle.words.proofs.BestWords.{rest_size, rest_over}
 use Rattle.words.specs.declared.found.Found.{Found}
 use Rattle.words.specs.Tasks.{cost_of, Goes}
 use Rattle.words.specs.Turns.{begun, after as turn_after, todo, joint, move_cost}
 use Rattle.words.proofs.Turns.{turned_full, todo_begun, joint_begun, todo_is, joint_is, joint_after, move_cost_is}
-use Rattle.words.proofs.Prices.{price_size}
+use Rattle.words.proofs.Prices.{move_size, price_size, prices_over}
 use Rattle.walk.specs.declared.spot.Spot.{Spot}
 use Rattle.walk.specs.Spots.{after, next_step}
 use Rattle.walk.specs.Walks.{cut, spent_up, Ready, Walked, put_at}
-use Rattle.walk.proofs.Cuts.{Sized, sized_at, cut_none, cut_step, found_lower, none_lower, with_cond, under_with, with_assoc, spent_none, nothing_over, price_over}
+use Rattle.walk.proofs.Cuts.{Sized, sized_at, cut_none, cut_step, found_lower, none_lower, with_cond, under_with, with_assoc, spent_none}
 
 pub goes_map : {C : Type 0} (r : Option (Found C)) (P Q : List ℕ → Type 0) → ((w : List ℕ) → P w → Q w) → Goes r P → Goes r Q
 goes_map None P Q h g = tt
@@ -41,27 +40,8 @@ put_word [] p m x h = absurd (omega arith)
 put_word (y ∷ ys) zero m x h = refl
 put_word (y ∷ ys) (suc p) m x h = put_word ys p m x (omega arith)
 
--- what is left of a process costs nothing or more
-module _ {St C : Type 0} (S : Measure C) (L : MeasureLaws S) (G : Process St C) (P : (s : St) (x : ℕ) → S.size (G.price s x) ≤ 16)
-    (N : (s : St) (x : ℕ) → NoHigher S L S.nothing (G.price s x)) where
-  spent_over : (m : ℕ) (s : St) (w : List ℕ) → 16 * m ≤ 65535 → Run G m s w → NoHigher S L S.nothing (spent S G s w)
-  spent_over zero s [] h r = inl refl
-  spent_over zero s (x ∷ w) h r = absurd r
-  spent_over (suc m) s [] h r = absurd r
-  spent_over (suc m) s (x ∷ w) h r =
-      let z = spent_size S L G P m (G.after s x) w (omega arith) r.2 in
-      let p = P s x in
-      nothing_over S L (G.price s x) (spent S G (G.after s x) w) (omega arith) (N s x) (spent_over m (G.after s x) w (omega arith) r.2)
-
-  pub rest_over : (m : ℕ) (s : St) → 16 * m ≤ 65535 → (d : C) → rest S G m s ≡ Some d → NoHigher S L S.nothing d
-  rest_over m s h d e = let b = (answers S L G P m s h).found d e in subst (NoHigher S L S.nothing) b.costs (spent_over m s _ h b.runs)
-
 module _ {C : Type 0} (S : Measure C) (L : MeasureLaws S) (K : Task) where
-  pub prices_over : (s : Joint) (x : ℕ) → NoHigher S L S.nothing ((process S K).price s x)
-  unfolding process
-  prices_over s x = price_over S L _ _
-
-  pub rest_sized : ((a b : ℕ) → K.points a b ≤ 7) → (m : ℕ) (s : Joint) → 16 * m ≤ 60000 → Sized S (16 * m) (rest S (process S K) m s)
+  pub rest_sized : RunsFew K → (m : ℕ) (s : Joint) → 16 * m ≤ 60000 → Sized S (16 * m) (rest S (process S K) m s)
   rest_sized few m s h = sized_at S (16 * m) _ (λ c e. rest_size S L (process S K) (price_size S L K few) m s c (omega arith) e)
 
 sized_choice : {C : Type 0} (S : Measure C) → MeasureLaws S → (z : ℕ) (t : Bool) (p : C) (o : Option C) (y : ℕ) → S.size p ≤ 16 → z + 16 ≤ 65535 → z + 16 ≤ y → Sized S z o → Sized S y (cond t (with S p o) None)
@@ -112,8 +92,8 @@ module _ {C : Type 0} (S : Measure C) (L : MeasureLaws S) (K : Task) (spot : Spo
   row_sized : (x : ℕ) → Sized S (16 * suc rests) (row x)
   row_sized x =
       subst (Sized S (16 * suc rests)) (sym (move_cost_is K spot.turn jk kt S x))
-      (sized_choice S L (16 * rests) (may_move K spot.turn.at spot.turn.to spot.turn.moved x) (move_price S K spot.turn.at spot.turn.moved x) _ (16 * suc rests) (L.size_price _ _ (R.points_most _ _)) (omega (arith, few)) (omega arith)
-      (rest_sized S L K R.points_most rests (joint K (turn_after spot.turn x)) (omega (arith, few))))
+      (sized_choice S L (16 * rests) (may_move K spot.turn.at spot.turn.to spot.turn.moved x) (move_price S K spot.turn.at spot.turn.moved x) _ (16 * suc rests) (move_size S L K R.runs_few spot.turn.at spot.turn.moved x) (omega (arith, few)) (omega arith)
+      (rest_sized S L K R.runs_few rests (joint K (turn_after spot.turn x)) (omega (arith, few))))
 
   least_sized : (x : ℕ) → Sized S (16 * suc rests) (least S x row)
   least_sized zero = tt
@@ -161,8 +141,8 @@ module _ {C : Type 0} (S : Measure C) (L : MeasureLaws S) (K : Task) (spot : Spo
       → Scanned (x + 1) (option_or (put_at spot.place x r) b)
   scan_move x b r H e W =
       let p = move_price S K spot.turn.at spot.turn.moved x in
-      let rz = rest_sized S L K R.points_most rests (joint K (turn_after spot.turn x)) (omega (arith, few)) in
-      let ps : S.size p ≤ 16 = L.size_price _ _ (R.points_most _ _) in
+      let rz = rest_sized S L K R.runs_few rests (joint K (turn_after spot.turn x)) (omega (arith, few)) in
+      let ps : S.size p ≤ 16 = move_size S L K R.runs_few spot.turn.at spot.turn.moved x in
       let here : with S spot.sofar (with S p (after_move x)) ≡ with S spot.sofar (row x) =
       ap (with S spot.sofar) (sym (move_cost_is K spot.turn jk kt S x ∙ ap (λ m. cond m (with S p (after_move x)) None) e)) in
       step x b (put_at spot.place x r) H
@@ -189,12 +169,12 @@ module _ {C : Type 0} (S : Measure C) (L : MeasureLaws S) (K : Task) (spot : Spo
 
   pub ready_next : (x : ℕ) → Ready S K (after spot x (S.join spot.sofar (move_price S K spot.turn.at spot.turn.moved x)))
   ready_next x =
-      let ps : S.size (move_price S K spot.turn.at spot.turn.moved x) ≤ 16 = L.size_price _ _ (R.points_most _ _) in
+      let ps : S.size (move_price S K spot.turn.at spot.turn.moved x) ≤ 16 = move_size S L K R.runs_few spot.turn.at spot.turn.moved x in
       let z = R.size in
       let td = more in
       let js = L.size_join spot.sofar (move_price S K spot.turn.at spot.turn.moved x) (omega arith) in
       record {
-        points_most = R.points_most;
+        runs_few = R.runs_few;
         trains_some = R.trains_some;
         trains_most = R.trains_most;
         left_most = R.left_most;
@@ -211,8 +191,8 @@ module _ {C : Type 0} (S : Measure C) (L : MeasureLaws S) (K : Task) (spot : Spo
       let s = joint K spot.turn in
       record {
         cost = sym (spent_none S L bound spot.sofar (16 * todo K spot.turn.left spot.turn.moved) (rest S (process S K) (todo K spot.turn.left spot.turn.moved) s) (omega (arith, R.size))
-            (rest_sized S L K R.points_most (todo K spot.turn.left spot.turn.moved) s (omega (arith, R.size)))
-            (rest_over S L (process S K) (price_size S L K R.points_most) (prices_over S L K) (todo K spot.turn.left spot.turn.moved) s (omega (arith, R.size))) e);
+            (rest_sized S L K R.runs_few (todo K spot.turn.left spot.turn.moved) s (omega (arith, R.size)))
+            (rest_over S L (process S K) (price_size S L K R.runs_few) (prices_over S L K R.runs_few) (todo K spot.turn.left spot.turn.moved) s (omega (arith, R.size))) e);
         goes = tt;
         long = tt;
       }

@@ -5,11 +5,11 @@ use Rattle.rules.specs.Conflicts.{Conflicts}
 use Rattle.scales.specs.Measure.{Measure, MeasureLaws}
 use Rattle.scales.proofs.Joins.{nothing_join}
 use Rattle.words.specs.Words.{rest, best, with}
-use Rattle.words.specs.Joint.{Task, process}
+use Rattle.words.specs.Joint.{Task, RunsFew, process}
 use Rattle.words.specs.Tasks.{task, begin, Solution}
 use Rattle.words.specs.declared.group.Group.{Group}
 use Rattle.words.specs.declared.found.Found.{Found}
-use Rattle.sheets.proofs.Posed.{over_few}
+use Rattle.words.proofs.Prices.{on_layout_runs_few}
 use Rattle.words.specs.Turns.{begun, todo, joint}
 use Rattle.words.proofs.Turns.{todo_begun, joint_begun}
 use Rattle.walk.specs.Walks.{cut, Ready, Walked}
@@ -28,6 +28,9 @@ with_nothing S L z (Some c) h s = ap Some (nothing_join S L c (omega arith))
 module _ {P R C : Type 0} (conflicts : R → Layout → Conflicts) (b : Group P R) (S : Measure C) (L : MeasureLaws S) where
   abbrev K : Task
   K = task conflicts b.board
+
+  few_points : RunsFew K
+  few_points = on_layout_runs_few _ b.board.layout.now b.board.roster.now b.board.trains b.board.goal
 
   abbrev full : ℕ
   full = b.board.trains * b.steps
@@ -50,7 +53,7 @@ module _ {P R C : Type 0} (conflicts : R → Layout → Conflicts) (b : Group P 
       let w = few in
       let z : S.size n ≡ 0 = ap S.size e ∙ L.size_nothing in
       record {
-        points_most = over_few b.board.layout.now;
+        runs_few = few_points;
         trains_some = b.some;
         trains_most = b.few;
         left_most = omega (arith, b.short, b.begun);
@@ -67,7 +70,7 @@ module _ {P R C : Type 0} (conflicts : R → Layout → Conflicts) (b : Group P 
             W.cost ∙ cut_all S _
             ∙ ap (λ v. with S v (rest S (process S K) (todo K (b.steps - 1) 0) (joint K (begun (b.steps - 1) b.start)))) e
             ∙ ap₂ (λ m u. with S S.nothing (rest S (process S K) m u)) todo_all s
-            ∙ with_nothing S L (16 * full) (rest S (process S K) full (begin K b.start)) (omega (arith, few)) (rest_sized S L K (over_few b.board.layout.now) full (begin K b.start) (omega (arith, few)));
+            ∙ with_nothing S L (16 * full) (rest S (process S K) full (begin K b.start)) (omega (arith, few)) (rest_sized S L K few_points full (begin K b.start) (omega (arith, few)));
         goes = goes_map r _ _ (λ plan g. ap (λ m. take m plan) (sym todo_all) ∙ g ∙ ap₂ (λ m u. best S (process S K) m u) todo_all s) W.goes;
         long = W.long;
       }

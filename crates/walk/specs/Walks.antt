@@ -2,7 +2,7 @@
 use Rattle.std.specs.Prelude.{◌≡◌, ℕ, ◌+◌, ◌*◌, ◌<◌, ◌≤◌, Bool, false, cond, not, length, take, drop, Some, None, Option, slice_set}
 use Rattle.scales.specs.Measure.{Measure}
 use Rattle.words.specs.Words.{best, under, with}
-use Rattle.words.specs.Joint.{Task, process}
+use Rattle.words.specs.Joint.{Task, RunsFew, process}
 use Rattle.words.specs.Tasks.{cost_of, Goes}
 use Rattle.words.specs.Turns.{todo, joint, rest_of}
 use Rattle.words.specs.declared.found.Found.{Found}
@@ -19,7 +19,7 @@ spent_up S (Some b) a = not (S.lower a b)
 
 -- the walk may go on from here: there is room for the plan, and no cost grows too large
 pub record Ready {C : Type 0} (S : Measure C) (K : Task) (s : Spot C) : Type 0 where
-  pub points_most : (a b : ℕ) → K.points a b ≤ 7
+  pub runs_few : RunsFew K
   pub trains_some : 1 ≤ K.trains
   pub trains_most : K.trains ≤ 8
   pub left_most : s.turn.left < 16

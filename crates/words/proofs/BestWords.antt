@@ -4,7 +4,7 @@ use Rattle.std.proofs.Common.{◌≡◌, ℕ, zero, suc, ◌*◌, ◌<◌, ◌�
 use Rattle.std.proofs.lemmas.Bool.{cases_order}
 use Rattle.scales.specs.Measure.{Measure, MeasureLaws}
 use Rattle.words.specs.Words.{Process, Run, spent, Beats, BestWord, Answers, FirstOf, Firstly, least, first, with, rest, best, choice}
-use Rattle.words.proofs.Least.{NoHigher, lower_no_higher, no_higher_trans, join_right, join_right_no_higher, firstly}
+use Rattle.words.proofs.Least.{NoHigher, lower_no_higher, no_higher_trans, join_right, join_right_no_higher, nothing_over, firstly}
 
 -- what a choice that can be made is
 pub choice_some : {C : Type 0} (S : Measure C) (b : Bool) (a : C) (o : Option C) (c : C) → cond b (with S a o) None ≡ Some c
@@ -125,3 +125,18 @@ module _ {St C : Type 0} (S : Measure C) (L : MeasureLaws S) (G : Process St C) 
   -- the size of what the search computes
   pub rest_size : (m : ℕ) (s : St) (c : C) → 16 * m ≤ 65535 → rest S G m s ≡ Some c → S.size c ≤ 16 * m
   rest_size m s c h e = let b = (answers m s h).found c e in rw b.costs at (spent_size m s _ h b.runs)
+
+-- what is left of a process costs nothing or more
+module _ {St C : Type 0} (S : Measure C) (L : MeasureLaws S) (G : Process St C) (P : (s : St) (x : ℕ) → S.size (G.price s x) ≤ 16)
+    (N : (s : St) (x : ℕ) → NoHigher S L S.nothing (G.price s x)) where
+  spent_over : (m : ℕ) (s : St) (w : List ℕ) → 16 * m ≤ 65535 → Run G m s w → NoHigher S L S.nothing (spent S G s w)
+  spent_over zero s [] h r = inl refl
+  spent_over zero s (x ∷ w) h r = absurd r
+  spent_over (suc m) s [] h r = absurd r
+  spent_over (suc m) s (x ∷ w) h r =
+      let z = spent_size S L G P m (G.after s x) w (omega arith) r.2 in
+      let p = P s x in
+      nothing_over S L (G.price s x) (spent S G (G.after s x) w) (omega arith) (N s x) (spent_over m (G.after s x) w (omega arith) r.2)
+
+  pub rest_over : (m : ℕ) (s : St) → 16 * m ≤ 65535 → (d : C) → rest S G m s ≡ Some d → NoHigher S L S.nothing d
+  rest_over m s h d e = let b = (answers S L G P m s h).found d e in subst (NoHigher S L S.nothing) b.costs (spent_over m s _ h b.runs)

@@ -35,6 +35,13 @@ module _ {C : Type 0} (S : Measure C) (L : MeasureLaws S) where
   join_right_no_higher a b c ab ac (inl e) = inl (ap (S.join a) e)
   join_right_no_higher a b c ab ac (inr h) = inr (join_right a b c ab ac h)
 
+  -- two costs that are not below nothing are not below it together
+  pub nothing_over : (p d : C) → S.size p + S.size d ≤ 65535 → NoHigher S.nothing p → NoHigher S.nothing d → NoHigher S.nothing (S.join p d)
+  nothing_over p d h np nd =
+      let e : S.join p S.nothing ≡ p = L.join_nothing p (omega arith) in
+      let up : NoHigher p (S.join p d) = subst (λ v. NoHigher v (S.join p d)) e (join_right_no_higher p S.nothing d (omega (arith, L.size_nothing)) (omega arith) nd) in
+      no_higher_trans S.nothing p (S.join p d) np up
+
   module _ (n : ℕ) (f : ℕ → Option C) where
     keep : (a : C) (x : ℕ) → FirstOf S n f a x → ((d : C) → f n ≡ Some d → NoHigher a d) → FirstOf S (suc n) f a x
     keep a x F h =

@@ -34,7 +34,6 @@ module _ (Q : Problem) (G : Group) (k : ℕ) (row place : ℕ → ℕ) (P : Pick
 
   pub posed_alone : Posed Q → Posed (alone Q k row)
   posed_alone L = record {
-    steps_some = L.steps_some;
     start_inside = λ i h. L.start_inside (row i) (P.member i h).a_row;
     start_open = λ i h. L.start_open (row i) (P.member i h).a_row;
     goal_inside = λ i h. L.goal_inside (row i) (P.member i h).a_row;

@@ -22,7 +22,7 @@ use Rattle.words.specs.Rows.{row_of, group_of, ChosenTo, Rows, Written, planned}
 use Rattle.words.specs.declared.chosen.Chosen.{Chosen}
 use Rattle.words.specs.declared.found.Found.{Found}
 use Rattle.words.proofs.BestWords.{answers}
-use Rattle.words.proofs.Prices.{price_size}
+use Rattle.words.proofs.Prices.{runs_few, price_size}
 use Rattle.words.proofs.Bridges.{bridge}
 use Rattle.words.proofs.Gathering.{gathered_picks, take_counted}
 use Rattle.words.proofs.Reading.{sheet_read}
@@ -102,7 +102,7 @@ module _ (conflicts : Layout → Conflicts) (q : Question) (c : Chosen) (H : Cho
     few = omega (arith, letters_most)
 
     prices : (s : Joint) (x : ℕ) → S.size (moving.price s x) ≤ 16
-    prices = price_size S L (task_of_problem (alone Q c.trains (row_of c))) laws.points_most
+    prices = price_size S L (task_of_problem (alone Q c.trains (row_of c))) (runs_few (alone Q c.trains (row_of c)) laws.points_most)
 
     -- the word of a sheet that has the plan
     word_is : (plan : List ℕ) (x : Plan) → length plan ≡ 128 → ((t j : ℕ) → t < q.steps → j < c.trains → x (row_of c j) (t + 1) ≡ get_or plan (c.trains * t + j) 0)

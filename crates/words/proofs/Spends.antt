@@ -4,10 +4,11 @@ use Rattle.scales.specs.Measure.{Measure, MeasureLaws, joined}
 use Rattle.sheets.specs.Problem.{Problem, ProblemLaws, everyone, run_over}
 use Rattle.sheets.specs.Plan.{Plan, step_cost, row_cost, cost}
 use Rattle.scales.proofs.Joins.{joined_size, joined_join, nothing_join}
+use Rattle.sheets.proofs.Costs.{step_cost_size}
 use Rattle.words.specs.Words.{Process, spent}
 use Rattle.words.specs.Joint.{Joint, turned, move_price, process}
 use Rattle.words.specs.Bridge.{counted, row_word, sheet_word}
-use Rattle.words.proofs.Prices.{price_size}
+use Rattle.words.proofs.Prices.{runs_few, price_size}
 use Rattle.words.proofs.Turns.{turned_part}
 use Rattle.words.proofs.Runs.{length_counted, get_d_counted, counted_same, turned_all, row, next, K}
 
@@ -33,7 +34,7 @@ module _ {St C : Type 0} (S : Measure C) (L : MeasureLaws S) (G : Process St C) 
 
 module _ {C : Type 0} (S : Measure C) (L : MeasureLaws S) (Q : Problem) (M : ProblemLaws Q) (x : Plan) where
   prices : (s : Joint) (y : ℕ) → S.size ((process S (K Q x)).price s y) ≤ 16
-  prices = price_size S L (K Q x) M.points_most
+  prices = price_size S L (K Q x) (runs_few Q M.points_most)
 
   abbrev step : ℕ → ℕ → C
   step t i = step_cost S Q x i t
@@ -50,8 +51,11 @@ module _ {C : Type 0} (S : Measure C) (L : MeasureLaws S) (Q : Problem) (M : Pro
       ∙ ap (λ z. S.price (run_over Q z (x j (t + 1))) (eqb z (get_or (counted Q.rows Q.goal) j 0) && eqb (x j (t + 1)) (get_or (counted Q.rows Q.goal) j 0))) a
       ∙ ap (λ z. S.price (run_over Q (x j t) (x j (t + 1))) (eqb (x j t) z && eqb (x j (t + 1)) z)) g
 
+  one_size : (t i : ℕ) → S.size (step t i) ≤ 16
+  one_size t i = step_cost_size S L Q M x i t
+
   step_size : (t j : ℕ) → j ≤ Q.rows → S.size (joined S j (step t)) ≤ j * 16
-  step_size t j h = let r = M.rows_most in joined_size S L 16 j (step t) (λ i k. L.size_price _ _ (M.points_most _ _)) (omega arith)
+  step_size t j h = let r = M.rows_most in joined_size S L 16 j (step t) (λ i k. one_size t i) (omega arith)
 
   spend_row : (t : ℕ) (w : List ℕ) → length w ≤ 3000 → (d j : ℕ) → j + d ≡ Q.rows
       → S.join (joined S j (step t)) (spent S (process S (K Q x)) (turned Q.rows (row Q x t) (counted j (next Q x t))) (row_word (next Q x t) j d ++ w))
@@ -71,7 +75,7 @@ module _ {C : Type 0} (S : Measure C) (L : MeasureLaws S) (Q : Problem) (M : Pro
       (let a = length_row_word (next Q x t) (j + 1) d in simp length-append (omega arith)) in
       let ts = spent_len S L (process S (K Q x)) prices (turned Q.rows (row Q x t) (counted (suc j) (next Q x t))) (row_word (next Q x t) (j + 1) d ++ w) (omega arith) in
       let js = step_size t j (omega arith) in
-      let ps : S.size (step t j) ≤ 16 = L.size_price _ _ (M.points_most _ _) in
+      let ps = one_size t j in
       let here : spent S (process S (K Q x)) (turned Q.rows (row Q x t) (counted j (next Q x t))) (row_word (next Q x t) j (suc d) ++ w) ≡ S.join (step t j) tail =
       ap (λ u. spent S (process S (K Q x)) u (row_word (next Q x t) j (suc d) ++ w)) s ∙ ap (λ p. S.join p tail) (price_is t j (omega arith)) in
       ap (S.join (joined S j (step t))) here ∙ sym (L.join_assoc (joined S j (step t)) (step t j) tail (omega arith)) ∙ ih
@@ -123,7 +127,7 @@ module _ {C : Type 0} (S : Measure C) (L : MeasureLaws S) (Q : Problem) (M : Pro
       ap (λ z. S.join z (joined S Q.steps (λ t. step t n))) (swap n (omega arith))
       ∙ sym (joined_join S L 128 Q.steps (λ t. joined S n (step t)) (λ t. step t n)
       (λ t k. omega (arith, step_size t n (omega arith)))
-      (λ t k. (let p : S.size (step t n) ≤ 16 = L.size_price _ _ (M.points_most _ _) in omega arith))
+      (λ t k. (let p = one_size t n in omega arith))
       (omega arith))
 
   pub spent_cost : 1 ≤ Q.rows → ((i : ℕ) → i < Q.rows → x i 0 ≡ Q.start i)

@@ -1,5 +1,5 @@
 -- Joint positions of a group of trains, and the process of moving them: one choice for each train in turn, step after step.
-use Rattle.std.specs.Prelude.{ℕ, Bool, cond, not, ◌&&◌, List, [], ◌∷◌, ◌++◌, length, ◌==◌, nat_eq, slice_index}
+use Rattle.std.specs.Prelude.{◌≡◌, ℕ, ◌≤◌, Bool, cond, not, ◌&&◌, List, [], ◌∷◌, ◌++◌, length, ◌==◌, nat_eq, slice_index}
 use Rattle.scales.specs.Measure.{Measure}
 use Rattle.sheets.specs.Problem.{all}
 use Rattle.words.specs.Words.{Process}
@@ -12,6 +12,11 @@ pub record Task : Type 0 where
   pub points : ℕ → ℕ → ℕ
   pub conflicts : (a b c d : ℕ) → Bool
   pub goal : List ℕ
+
+-- every move runs over at most 7 points, and over none when standing
+pub record RunsFew (K : Task) : Type 0 where
+  pub most : (a b : ℕ) → K.points a b ≤ 7
+  pub still : (a : ℕ) → K.points a a ≡ 0
 
 -- where the trains stood as the step began, and where those that have moved in it went
 pub record Joint : Type 0 where
