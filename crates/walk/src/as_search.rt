@@ -1,5 +1,7 @@
-ghost use Rattle.std.specs.Prelude.{◌≡◌, ◌≤◌};
-ghost use Rattle.sheets.specs.Inquiry.{trains};
+ghost use Rattle.std.specs.Prelude.{◌≡◌, ℕ, ◌≤◌};
+ghost use Rattle.sheets.specs.Inquiry.{Inquiry, inquired, trains};
+ghost use Rattle.sheets.specs.Theorems.{Same};
+ghost use Rattle.search.specs.Answers.{SameMeaning, Answered};
 ghost use Rattle.walk.specs.OneTrain.{one_train_lem};
 
 use crate::explore::best_of;
@@ -21,9 +23,26 @@ impl<S: Scale> Search<S> for Walk {
     fn search<R: Rule>(
         &mut self,
         asked: &Asked<R, S>,
-        _cells: &mut [Option<S::Cost>],
+        cells: &mut [Option<S::Cost>],
         sheet: &mut Sheet,
-    ) -> Answer<S::Cost> {
+    ) -> Answer<S::Cost>
+        ensures asking_leaves_the_meaning {
+            let takes = ⟦<Walk as Search<S>>⟧.takes in
+            SameMeaning (takes self.new) (takes self.old)
+        }
+        ensures the_answer_is_right {
+            let i = inquired R.Rule.conflicts S.Scale.measure asked.now in
+            Answered i (trains i ≤ self.old.most) sheet.old sheet.new result
+        }
+        ensures it_takes_the_groups_up_to_its_greatest {
+            (i : Inquiry S.Cost) (cells : ℕ) →
+                Same (⟦<Walk as Search<S>>⟧.takes self.old i cells) (trains i ≤ self.old.most)
+        }
+        ensures the_walk_stays_as_it_was { self.new ≡ self.old }
+        ensures no_cell_is_used { cells.new ≡ cells.old }
+    {
+        // the walk works without a worksheet
+        let _ = cells;
         let group = Group::of(asked);
         if group.board.trains > self.most {
             return Err(Unplanned::BeyondReach);
