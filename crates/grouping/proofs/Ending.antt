@@ -10,7 +10,7 @@ use Rattle.groups.specs.Course.{Outcome, found}
 use Rattle.groups.proofs.Moved.{course_moved, whole_moved}
 use Rattle.grouping.specs.Ends.{about, Ends, Given}
 use Rattle.grouping.specs.Asking.{Stand, EndsIn}
-use Rattle.grouping.specs.Following.{others_trans}
+use Rattle.grouping.proofs.Following.{others_trans}
 
 same_back : {A B : Type 0} → Same A B → Same B A
 same_back s = record { to = s.back; back = s.to }

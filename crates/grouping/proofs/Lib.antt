@@ -1,2 +1,4 @@
+pub mod Following
+pub mod Taking
 pub mod Rows
 pub mod Ending

@@ -1,6 +1,6 @@
 -- Some rows of a question's group make a question too.
-use Rattle.std.proofs.Common.{◌≡◌, ℕ, zero, suc, ◌+◌, ◌<◌, ◌≤◌, Bool, true, false, cond, not, ◌||◌, eqb, ltb, ◌⊎◌, List, is_some, sym, refl, ap, ◌∙◌, subst, inl, inr, arith}
-use Rattle.std.proofs.lemmas.Bool.{cases_eq, and_from, and_parts, eq-eqb, ne_eqb, le-ltb}
+use Rattle.std.proofs.Common.{◌≡◌, ℕ, ◌<◌, ◌≤◌, Bool, true, false, not, ◌||◌, eqb, ltb, List, is_some, sym, refl, ap, ◌∙◌, subst, arith}
+use Rattle.std.proofs.lemmas.Bool.{and_from, and_parts, eq-eqb, ne_eqb, le-ltb}
 use Rattle.track.specs.Layouts.{sections_of}
 use Rattle.roster.specs.Trains.{on_layout}
 use Rattle.roster.specs.Model.{held, rows_of}
@@ -10,15 +10,8 @@ use Rattle.sheets.specs.declared.question.Question.{Question}
 use Rattle.sheets.proofs.Alls.{all_at, all_from}
 use Rattle.sheets.proofs.Posed.{sound}
 use Rattle.groups.specs.Parts.{Naming, part}
+use Rattle.groups.proofs.Counting.{count_some}
 use Rattle.grouping.specs.Asking.{SomeRows}
-
-count_some : (n : ℕ) (f : ℕ → Bool) (i : ℕ) → i < n → f i ≡ true → 0 < count n f
-count_some zero f i h e = absurd (omega arith)
-count_some (suc n) f i h e = go (cases_eq i n) (λ j. count_some n f i j e)
-  where
-    go : (i ≡ n) ⊎ (i ≡ n → ⊥) → (i < n → 0 < count n f) → 0 < count n f + cond (f n) 1 0
-    go (inl z) rec = rw (sym (ap f z) ∙ e) (omega arith)
-    go (inr z) rec = omega (arith, rec (omega arith))
 
 pub some_rows : (q : Question) (marks : List Bool) → SomeRows q marks
     → is_some (question_declined q.layout.now q.roster.now marks q.steps) ≡ false

@@ -12,7 +12,7 @@ use Rattle.groups.specs.Laws.{ACourseHasOneOutcome, ACourseExistsWhereTakingIsDe
 
 -- the same inquiry for another group
 abbrev pub about : {C : Type 0} → Inquiry C → Group → Inquiry C
-about i F = record { measure = i.measure; problem = i.problem; group = F }
+about i F = record { measure = i.measure; layout = i.layout; number = i.number; problem = i.problem; group = F }
 
 -- which groups are taken below for the inquiry, with so many cells: `takes` is the meaning of the search below
 abbrev pub taken : {C : Type 0} → (takes : Inquiry C → ℕ → Type 0) → Inquiry C → (cells : ℕ) → Group → Type 0

@@ -1,4 +1,2 @@
 pub mod Ends
 pub mod Asking
-pub mod Taking
-pub mod Following

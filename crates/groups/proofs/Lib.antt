@@ -7,3 +7,5 @@ pub mod Fewer
 pub mod Exists
 pub mod Moved
 pub mod Onward
+pub mod Counting
+pub mod Single

@@ -6,7 +6,7 @@ use Rattle.sheets.specs.Posing.{marked}
 use Rattle.sheets.specs.Inquiry.{inquired}
 use Rattle.groups.specs.Parts.{Naming, part, alone}
 use Rattle.grouping.proofs.Rows.{part_rows}
-use Rattle.grouping.specs.Following.{as_long, rows_first, row_passed, row_ended, row_next, rows_all}
+use Rattle.grouping.proofs.Following.{as_long, rows_first, row_passed, row_ended, row_next, rows_all}
 use Rattle.grouping.proofs.joining.ask_each_alone.Goals as goal
 use Rattle.grouping.proofs.joining.ask_each_alone.Goals.{then-member+in_ok-ask_for, else-member}
 

@@ -1,6 +1,6 @@
 use Rattle.std.proofs.Common.{length}
 use Rattle.sheets.specs.Inquiry.{inquired}
-use Rattle.grouping.specs.Following.{RowsAsked}
+use Rattle.grouping.proofs.Following.{RowsAsked}
 use Rattle.grouping.proofs.joining.ask_each_alone.Given as goal
 
 abbrev pub invariant-loop-row : goal.invariant-loop-row

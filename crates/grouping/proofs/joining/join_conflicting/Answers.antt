@@ -6,7 +6,7 @@ use Rattle.sheets.specs.Posing.{marked}
 use Rattle.sheets.specs.Inquiry.{inquired}
 use Rattle.groups.specs.Model.{naming}
 use Rattle.grouping.proofs.Rows.{part_rows}
-use Rattle.grouping.specs.Following.{as_long, part_ended, part_next, parts_end, one_fewer}
+use Rattle.grouping.proofs.Following.{as_long, part_ended, part_next, parts_end, one_fewer}
 use Rattle.grouping.proofs.joining.join_conflicting.Goals as goal
 
 pub ask_for-requires : goal.ask_for-requires

@@ -4,7 +4,7 @@ use Rattle.sheets.specs.Posing.{marked}
 use Rattle.sheets.specs.Inquiry.{inquired}
 use Rattle.groups.specs.Parts.{parts}
 use Rattle.groups.specs.Model.{naming}
-use Rattle.grouping.specs.Following.{PartsAsked}
+use Rattle.grouping.proofs.Following.{PartsAsked}
 use Rattle.grouping.proofs.joining.join_conflicting.Given as goal
 
 abbrev pub invariant-loop-conflict : goal.invariant-loop-conflict
