@@ -1,11 +1,10 @@
 -- Marks that widen: by the open neighbours of one section, and by those of every marked section.
-use Rattle.std.proofs.Common.{◌≡◌, ℕ, ◌+◌, ◌<◌, ◌≤◌, Bool, true, false, ◌⊎◌, List, length, get_or, set, is_some, Some, None, Option, sym, refl, ap, ◌∙◌, subst, inl, inr, ⊎_elim, arith}
+use Rattle.std.proofs.Common.{◌≡◌, ℕ, ◌+◌, ◌<◌, ◌≤◌, Bool, true, false, ◌⊎◌, List, length, get_or, set, is_some, Some, None, Option, sym, refl, ◌∙◌, subst, inl, inr, ⊎_elim, arith}
 use Rattle.std.proofs.lemmas.List.{length-set, get_or-set_same, get_or-set_other}
 use Rattle.std.proofs.lemmas.Bool.{cases_eq, cases_lt, both_ways}
-use Rattle.track.specs.Layouts.{sections_of, look, Neighbours}
+use Rattle.track.specs.Layouts.{sections_of, look}
 use Rattle.track.specs.declared.layout.Layout.{Layout}
 use Rattle.track.proofs.Laws.{look_inside}
-use Rattle.roster.specs.Model.{closed_of}
 use Rattle.roster.specs.declared.roster.Roster.{Roster}
 use Rattle.single_check.specs.Marks.{Onward, OnwardFrom, Widened}
 
@@ -58,44 +57,37 @@ widened_on old mid new P S R f g h v w = record {
   added = λ b r. ⊎_elim (λ p. w.kept b (v.added b p)) (λ s. w.added b s) (h b r);
 }
 
--- b is one of the first i of a list, and open
-pub record Near (o : Roster) (xs : List ℕ) (i b : ℕ) : Type 0 where
-  pub place : ℕ
-  pub before : place < i
-  pub is : get_or xs place 0 ≡ b
-  pub not_closed : closed_of o b ≡ false
+-- a link leads from a to b, which is open and below i
+pub record Near (l : Layout) (o : Roster) (a i b : ℕ) : Type 0 where
+  pub below : b < i
+  pub onward : Onward l o a b
 
-module _ (o : Roster) (xs : List ℕ) (i : ℕ) where
-  near_on : (b : ℕ) → Near o xs i b → Near o xs (i + 1) b
-  near_on b n = record { place = n.place; before = omega (arith, n.before); is = n.is; not_closed = n.not_closed }
+module _ (l : Layout) (o : Roster) (a i : ℕ) where
+  near_on : (b : ℕ) → Near l o a i b → Near l o a (i + 1) b
+  near_on b n = record { below = omega (arith, n.below); onward = n.onward }
 
-  -- one of the first i, or the next
-  near_cases : (b : ℕ) → Near o xs (i + 1) b → Near o xs i b ⊎ (b ≡ get_or xs i 0)
-  near_cases b n =
-      ⊎_elim
-      (λ h. inl (record { place = n.place; before = h; is = n.is; not_closed = n.not_closed }))
-      (λ h. let e : n.place ≡ i = omega (arith, n.before) in inr (sym n.is ∙ ap (λ z. get_or xs z 0) e))
-      (cases_lt n.place i)
+  -- below i, or i itself
+  near_cases : (b : ℕ) → Near l o a (i + 1) b → Near l o a i b ⊎ (b ≡ i)
+  near_cases b n = ⊎_elim (λ h. inl (record { below = h; onward = n.onward })) (λ h. inr (omega (arith, n.below))) (cases_lt b i)
 
-  pub near_skip : (m n : List Bool) → closed_of o (get_or xs i 0) ≡ true → Widened m (Near o xs i) n → Widened m (Near o xs (i + 1)) n
+  pub near_skip : (m n : List Bool) → (Onward l o a i → ⊥) → Widened m (Near l o a i) n → Widened m (Near l o a (i + 1)) n
   near_skip m n c w =
-      widened_as m n (Near o xs i) (Near o xs (i + 1)) near_on
-      (λ b h. ⊎_elim (λ p. p) (λ e. absurd (both_ways (closed_of o b) h.not_closed (ap (closed_of o) e ∙ c))) (near_cases b h))
+      widened_as m n (Near l o a i) (Near l o a (i + 1)) near_on
+      (λ b h. ⊎_elim (λ p. p) (λ e. absurd (c (subst (Onward l o a) e h.onward))) (near_cases b h))
       w
 
-  pub near_take : (m n : List Bool) → closed_of o (get_or xs i 0) ≡ false → get_or xs i 0 < length n → Widened m (Near o xs i) n → Widened m (Near o xs (i + 1)) (set n (get_or xs i 0) true)
-  near_take m n c l w =
-      widened_set m n (Near o xs i) (Near o xs (i + 1)) (get_or xs i 0) l near_on (record { place = i; before = omega arith; is = refl; not_closed = c }) near_cases w
+  pub near_take : (m n : List Bool) → Onward l o a i → i < length n → Widened m (Near l o a i) n → Widened m (Near l o a (i + 1)) (set n i true)
+  near_take m n c k w =
+      widened_set m n (Near l o a i) (Near l o a (i + 1)) i k near_on (record { below = omega arith; onward = c }) near_cases w
 
-pub near_none : (o : Roster) (xs : List ℕ) (m : List Bool) → length m ≡ 32 → Widened m (Near o xs 0) m
-near_none o xs m n = widened_none m (Near o xs 0) n (λ b h. omega (arith, h.before))
+pub near_none : (l : Layout) (o : Roster) (a : ℕ) (m : List Bool) → length m ≡ 32 → Widened m (Near l o a 0) m
+near_none l o a m n = widened_none m (Near l o a 0) n (λ b h. omega (arith, h.below))
 
--- all neighbours are passed
-pub near_all : (l : Layout) (o : Roster) (a : ℕ) (xs : List ℕ) (m n : List Bool) → Neighbours l a xs → Widened m (Near o xs (length xs)) n → Widened m (Onward l o a) n
-near_all l o a xs m n N w =
-    widened_as m n (Near o xs (length xs)) (Onward l o a)
-    (λ b h. record { linked = subst (λ z. is_some (look l a z) ≡ true) h.is (N.linked h.place h.before); not_closed = h.not_closed })
-    (λ b h. let p = N.every b h.linked in record { place = p.0; before = p.1; is = p.2; not_closed = h.not_closed })
+-- all sections are passed
+pub near_all : (l : Layout) (o : Roster) (a i : ℕ) (m n : List Bool) → sections_of l ≤ i → Widened m (Near l o a i) n → Widened m (Onward l o a) n
+near_all l o a i m n most w =
+    widened_as m n (Near l o a i) (Onward l o a) (λ b h. h.onward)
+    (λ b h. record { below = omega (arith, (linked_inside l a b h.linked).1); onward = h })
     w
 
 -- a link leads to b, which is open, from a marked section below i

@@ -12,9 +12,9 @@ use sheets::question::Question;
 fn mark_neighbours(question: &Question, a: u8, marks: &mut [bool; 32])
     ensures the_open_neighbours_are_marked_too { Widened marks.old (Onward question.now.layout.now question.now.roster.now a) marks.new }
 {
-    for b in question.layout.neighbours(a) {
-        if !question.roster.is_closed(*b) {
-            marks[usize::from(*b)] = true;
+    for b in 0..question.layout.sections() {
+        if question.layout.points(a, b).is_some() && !question.roster.is_closed(b) {
+            marks[usize::from(b)] = true;
         }
     }
 }

@@ -3,4 +3,4 @@ use Rattle.single_check.proofs.Marking.{Near}
 use Rattle.single_check.proofs.reach.mark_neighbours.Given as goal
 
 abbrev pub invariant-loop-b : goal.invariant-loop-b
-invariant-loop-b l = Widened l.initial.marks (Near l.question.roster.now l.b-items l.b-index) l.marks
+invariant-loop-b l = Widened l.initial.marks (Near l.question.layout.now l.question.roster.now l.a l.b) l.marks
