@@ -9,3 +9,4 @@ pub mod Moved
 pub mod Onward
 pub mod Counting
 pub mod Single
+pub mod Joined

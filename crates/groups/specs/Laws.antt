@@ -1,8 +1,9 @@
--- What holds of every course, and of sheets whose parts do not conflict.
+-- What holds of every course, of sheets whose parts do not conflict, and of joinings.
 use Rattle.std.specs.Prelude.{◌≡◌, ℕ, ◌+◌, ◌<◌, ◌⊎◌}
 use Rattle.scales.specs.Measure.{Measure, joined}
 use Rattle.sheets.specs.Problem.{Problem, Group, Member, count}
 use Rattle.sheets.specs.Plan.{Plan, SameOn, Best, Without, cost}
+use Rattle.sheets.specs.Theorems.{Same}
 use Rattle.groups.specs.Parts.{Naming, Names, part, alone, merged, parts, NoClash, FirstClash, assembled}
 use Rattle.groups.specs.Course.{Outcome, beyond, none, found, Whole}
 
@@ -64,3 +65,17 @@ EachJoiningTakesOneAway Q G =
     → Names Q G name
     → FirstClash Q G name x t r q
     → Names Q G (merged name r q) × (parts Q.rows G (merged name r q) + 1 ≡ parts Q.rows G name)
+
+-- a row is in the part of r or in that of q
+abbrev pub InEither : Naming → (r q p : ℕ) → Type 0
+InEither name r q p = (name p ≡ name r) ⊎ (name p ≡ name q)
+
+-- the parts of r and q have become one: two rows are now in one part exactly if they were before, or if each was in one of the two parts;
+-- a row of another part has its part's name as before
+pub record BothPartsAreOne (name : Naming) (r q : ℕ) (new : Naming) : Type 0 where
+  pub together : (p o : ℕ) → Same (new p ≡ new o) ((name p ≡ name o) ⊎ (InEither name r q p × InEither name r q o))
+  pub others : (p : ℕ) → (InEither name r q p → ⊥) → new p ≡ name p
+
+-- each joining makes just the rows of both parts one part
+abbrev pub EachJoiningMakesBothPartsOne : Type 0
+EachJoiningMakesBothPartsOne = (name : Naming) (r q : ℕ) → BothPartsAreOne name r q (merged name r q)

@@ -2,7 +2,7 @@ ghost use Rattle.std.specs.Prelude.{◌≡◌, ◌<◌};
 ghost use Rattle.sheets.specs.Posing.{marked};
 ghost use Rattle.sheets.specs.Problem.{Problem, Group};
 ghost use Rattle.groups.specs.Parts.{alone, merged, part};
-ghost use Rattle.groups.specs.Laws.{AsManyPartsAsTrainsAtFirst, EachJoiningTakesOneAway};
+ghost use Rattle.groups.specs.Laws.{AsManyPartsAsTrainsAtFirst, BothPartsAreOne, EachJoiningMakesBothPartsOne, EachJoiningTakesOneAway};
 ghost use Rattle.groups.specs.Model.{naming};
 
 use crate::parts::Parts;
@@ -30,6 +30,9 @@ impl Parts {
     // The parts of the two rows as one, under the name of the first. Rows that no roster has are left alone.
     pub fn joined(self, row: usize, other: usize) -> Parts
         ensures the_two_parts_are_one { row < 8 → other < 8 → naming result ≡ merged (naming self) row other }
+        ensures just_the_rows_of_both_parts_are_one_part { row < 8 → other < 8
+            → BothPartsAreOne (naming self) row other (naming result) }
+        ensures each_joining_makes_both_parts_one { EachJoiningMakesBothPartsOne }
         ensures other_rows_are_left_alone { (row < 8 → other < 8 → ⊥) → result ≡ self }
         ensures each_joining_takes_one_away { (Q : Problem) (G : Group) → EachJoiningTakesOneAway Q G }
     {
