@@ -7,7 +7,7 @@ use Rattle.rules.specs.Conflicts.{Conflicts}
 use Rattle.scales.specs.Measure.{Measure}
 use Rattle.roster.specs.declared.roster.Roster.{Roster}
 use Rattle.roster.specs.Trains.{on_layout}
-use Rattle.roster.specs.Model.{held, seen, rows_of, start_at, goal_at, closed_of}
+use Rattle.roster.specs.Model.{held, seen, rows_of, number_at, start_at, goal_at, closed_of}
 use Rattle.sheets.specs.Problem.{Group, count}
 use Rattle.sheets.specs.Posing.{all_trains, marked, all_rows, question_declined}
 use Rattle.sheets.specs.Inquiry.{Inquiry, inquiry, problem_of}
@@ -45,6 +45,12 @@ can_be_asked l o marks steps placed all-marked within someone =
 pub asks_the_book : {C : Type 0} (conflicts : Layout → Conflicts) (m : Measure C) (takes : Inquiry C → ℕ → Type 0) (l : Layout) (o : Roster) (marks : List Bool) (steps : ℕ) (q : Question)
     → q.layout.now ≡ l → q.roster.now ≡ o → q.group ≡ marks → q.steps ≡ steps → marked marks ≡ all_trains (rows_of o)
     → inquiry conflicts m q ≡ asked (setting l (conflicts l) m takes) (seen o) steps
-unfolding rows_of start_at goal_at closed_of
+unfolding rows_of number_at start_at goal_at closed_of
 asks_the_book conflicts m takes l o marks steps q a b c d e =
-    (λ i. record { measure = m; problem = problem_of (conflicts (a i)) (a i) (b i) (d i); group = (ap marked c ∙ e) i })
+    (λ i. record {
+      measure = m;
+      layout = a i;
+      number = number_at (b i);
+      problem = problem_of (conflicts (a i)) (a i) (b i) (d i);
+      group = (ap marked c ∙ e) i;
+    })

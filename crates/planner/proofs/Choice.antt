@@ -1,5 +1,5 @@
 -- The promise leaves no choice: one reply to a call is kept, and one sheet.
-use Rattle.std.proofs.Common.{◌≡◌, ℕ, ◌<◌, ◌≤◌, ◌||◌, eqb, ltb, ◌⊎◌, List, [], length, Some, None, Option, sym, refl, ap, ◌∙◌, inl, inr, arith}
+use Rattle.std.proofs.Common.{◌≡◌, ℕ, ◌<◌, ◌≤◌, ◌||◌, eqb, ltb, ◌⊎◌, List, [], length, Some, None, Option, sym, refl, ap, subst, ◌∙◌, inl, inr, arith}
 use Rattle.std.proofs.lemmas.Bool.{cases_lt, ltb-false, or_parts, lt-ltb}
 use Rattle.track.specs.Layouts.{sections_of}
 use Rattle.track.specs.declared.layout.Layout.{Layout}
@@ -18,7 +18,7 @@ use Rattle.groups.specs.Course.{beyond, none, found}
 use Rattle.planner.specs.declared.planner.Planner.{Planner}
 use Rattle.sheets.specs.Posing.{all_trains}
 use Rattle.planner.specs.Promise.{Setting, Reply, accepted, declined, noted, are_closed, planned, problem, GroupingEnds, PlanAnswered, PlanKept}
-use Rattle.planner.specs.History.{Meaning, setting_of, History, EveryRunKeepsAllReplies, ThePromiseLeavesNoChoice}
+use Rattle.planner.specs.History.{Meaning, setting_of, History, EveryRunKeepsAllReplies, ThePromiseLeavesNoChoice, SameWritten, OneAnswer}
 use Rattle.planner.proofs.Plans.{problem_laws, once}
 use Rattle.planner.proofs.Placed.{met_none, few_trains}
 use Rattle.planner.proofs.Runs.{made_stands, every_run_keeps_all_replies}
@@ -28,7 +28,7 @@ same_rows old new was other a b r t e = ap (λ (s : Sheet). plan_of s r t) a ∙
 
 module _ {C : Type 0} (w : Setting C) (L : MeasureLaws w.measure) (b : Book) (steps cells : ℕ) (K : ProblemLaws (problem w b steps)) (old new was other : Sheet) where
   abbrev Alike : Reply C → Reply C → Type 0
-  Alike r t = (r ≡ t) × ((i j : ℕ) → plan_of old i j ≡ plan_of was i j → plan_of new i j ≡ plan_of other i j)
+  Alike r t = OneAnswer b (plan steps cells) r t old new was other
 
   -- why no sheet is given
   abbrev Why : ℕ → Type 0
@@ -44,10 +44,12 @@ module _ {C : Type 0} (w : Setting C) (L : MeasureLaws w.measure) (b : Book) (st
       = best_unique w.measure L (problem w b steps) K (all_trains (length b.trains)) (plan_of new) (plan_of other) x.best y.best in
       let costs : c ≡ d
       = sym x.costs ∙ cost_same w.measure L (problem w b steps) K (all_trains (length b.trains)) (plan_of new) (plan_of other) same ∙ y.costs in
-      let count : n ≡ m = (once w L b steps cells K (found n x.groups.0) (found m y.groups.0) x.groups.1 y.groups.1).0 in (
-        (λ z. planned (costs z) (count z)),
-        λ p t v. go p t v same (λ out. x.elsewhere p t (λ u e. out u.a_row e)) (λ out. y.elsewhere p t (λ u e. out u.a_row e)) (cases_lt p (length b.trains)) (cases_lt steps t),
-      )
+      let count : n ≡ m = (once w L b steps cells K (found n x.groups.0) (found m y.groups.0) x.groups.1 y.groups.1).0 in
+      record {
+        one_reply = λ z. planned (costs z) (count z);
+        written = λ p t u v. same p t (record { a_row = u; of_group = lt-ltb p (length b.trains) u }) v;
+        elsewhere = λ p t v. go p t v same (λ out. x.elsewhere p t (λ u e. out u.a_row e)) (λ out. y.elsewhere p t (λ u e. out u.a_row e)) (cases_lt p (length b.trains)) (cases_lt steps t);
+      }
     where
       go : (p t : ℕ) → plan_of old p t ≡ plan_of was p t → SameOn (problem w b steps) (all_trains (length b.trains)) (plan_of new) (plan_of other)
           → ((p < length b.trains → t ≤ steps → ⊥) → plan_of new p t ≡ plan_of old p t)
@@ -67,7 +69,11 @@ module _ {C : Type 0} (w : Setting C) (L : MeasureLaws w.measure) (b : Book) (st
       go (inl e) = once w L b steps cells K (found n i.sheet_or_none.groups.0) beyond i.sheet_or_none.groups.1 e.1
       go (inr e) = once w L b steps cells K (found n i.sheet_or_none.groups.0) none i.sheet_or_none.groups.1 e.1
   one_reply (declined k) (declined j) h i =
-      (go h.sheet_or_none.reason i.sheet_or_none.reason, same_rows old new was other h.sheet_or_none.untouched i.sheet_or_none.untouched)
+      record {
+        one_reply = go h.sheet_or_none.reason i.sheet_or_none.reason;
+        written = tt;
+        elsewhere = same_rows old new was other h.sheet_or_none.untouched i.sheet_or_none.untouched;
+      }
     where
       go : Why k → Why j → ◌≡◌ {A = Reply C} (declined k) (declined j)
       go (inl e) (inl f) = ap declined (e.0 ∙ sym f.0)
@@ -89,8 +95,13 @@ module _ {R S Q C : Type 0} (k : Meaning R S Q C) (ruled : (r : R) (l : Layout) 
       → (r t : Reply C) (old new was other : Sheet)
       → PlanKept (setting_of k made) (book_of (sections_of made.layout) calls) steps cells o r old new
       → PlanKept (setting_of k made) (book_of (sections_of made.layout) calls) steps cells o t was other
-      → (r ≡ t) × ((i j : ℕ) → plan_of old i j ≡ plan_of was i j → plan_of new i j ≡ plan_of other i j)
-  planning calls steps cells (Some n) e r t old new was other h i = (h.0 ∙ sym i.0, same_rows old new was other h.1 i.1)
+      → OneAnswer (book_of (sections_of made.layout) calls) (plan steps cells) r t old new was other
+  planning calls steps cells (Some n) e r t old new was other h i =
+      record {
+        one_reply = h.0 ∙ sym i.0;
+        written = subst (λ z. SameWritten (book_of (sections_of made.layout) calls) (plan steps cells) z new other) (sym h.0) tt;
+        elsewhere = same_rows old new was other h.1 i.1;
+      }
   planning calls steps cells None e r t old new was other h i =
       let n = sections_of made.layout in
       let a = met_none 21 (eqb steps 0 || ltb 16 steps) _ e in
@@ -100,11 +111,16 @@ module _ {R S Q C : Type 0} (k : Meaning R S Q C) (ruled : (r : R) (l : Layout) 
       one_reply (setting_of k made) (measured made.scale) (book_of n calls) steps cells laws old new was other r t h i
 
   the_promise_leaves_no_choice : ThePromiseLeavesNoChoice k made
-  the_promise_leaves_no_choice calls (enter v s g) r t old new was other h i = (h.0 ∙ sym i.0, same_rows old new was other h.1 i.1)
-  the_promise_leaves_no_choice calls (withdraw v) r t old new was other h i = (h.0 ∙ sym i.0, same_rows old new was other h.1 i.1)
-  the_promise_leaves_no_choice calls (possess s) r t old new was other h i = (h.0 ∙ sym i.0, same_rows old new was other h.1 i.1)
-  the_promise_leaves_no_choice calls (give_up s) r t old new was other h i = (h.0 ∙ sym i.0, same_rows old new was other h.1 i.1)
-  the_promise_leaves_no_choice calls ask r t old new was other h i = (h.0 ∙ sym i.0, same_rows old new was other h.1 i.1)
+  the_promise_leaves_no_choice calls (enter v s g) r t old new was other h i =
+      record { one_reply = h.0 ∙ sym i.0; written = tt; elsewhere = same_rows old new was other h.1 i.1 }
+  the_promise_leaves_no_choice calls (withdraw v) r t old new was other h i =
+      record { one_reply = h.0 ∙ sym i.0; written = tt; elsewhere = same_rows old new was other h.1 i.1 }
+  the_promise_leaves_no_choice calls (possess s) r t old new was other h i =
+      record { one_reply = h.0 ∙ sym i.0; written = tt; elsewhere = same_rows old new was other h.1 i.1 }
+  the_promise_leaves_no_choice calls (give_up s) r t old new was other h i =
+      record { one_reply = h.0 ∙ sym i.0; written = tt; elsewhere = same_rows old new was other h.1 i.1 }
+  the_promise_leaves_no_choice calls ask r t old new was other h i =
+      record { one_reply = h.0 ∙ sym i.0; written = tt; elsewhere = same_rows old new was other h.1 i.1 }
   the_promise_leaves_no_choice calls (plan a c) r t old new was other h i =
       planning calls a c (refusal (sections_of made.layout) (book_of (sections_of made.layout) calls) (plan a c)) refl r t old new was other h i
 

@@ -1,5 +1,6 @@
 pub mod Placed
 pub mod Closed
+pub mod Called
 pub mod Asked
 pub mod Plans
 pub mod Runs

@@ -53,6 +53,9 @@ on_after n b (give_up s) h = either_on n (refusal n b (give_up s)) (changed b (g
 on_after n b ask h = h
 on_after n b (plan a c) h = either_on n (refusal n b (plan a c)) b b (λ e. h) h
 
+pub empty_placed : (n : ℕ) (b : Book) → b ≡ empty → on_layout n b.trains ≡ true
+empty_placed n b e = ap (λ (z : Book). on_layout n z.trains) e
+
 -- no book has more than eight trains
 length_entered : (t : Train) (xs : List Train) → length (entered t xs) ≡ suc (length xs)
 length_entered t [] = refl

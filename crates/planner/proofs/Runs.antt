@@ -1,17 +1,13 @@
 -- One call more: its reply is kept, and the planner that it leaves stands.
-use Rattle.std.proofs.Common.{◌≡◌, ℕ, ◌≤◌, true, ◌⊎◌, List, [], ◌∷◌, ◌++◌, length, Some, None, Ok, Err, Option, Result, sym, refl, ap, ◌∙◌, subst, inl, inr, append_assoc, append-nil}
+use Rattle.std.proofs.Common.{◌≡◌, ℕ, ◌⊎◌, List, [], ◌∷◌, ◌++◌, length, Some, None, Option, sym, refl, ap, ◌∙◌, subst, inl, inr, append_assoc, append-nil}
 use Rattle.track.specs.Layouts.{sections_of}
-use Rattle.track.specs.Refusals.{granted, refused_by, unless}
+use Rattle.track.specs.Refusals.{unless}
 use Rattle.track.specs.declared.layout.Layout.{Layout}
-use Rattle.track.specs.declared.refusal.Refusal.{Refusal}
-use Rattle.track.proofs.Laws.{sections_most}
 use Rattle.rules.specs.Conflicts.{Conflicts}
 use Rattle.scales.specs.Measure.{Measure}
-use Rattle.roster.specs.declared.roster.Roster.{Roster}
-use Rattle.roster.specs.Book.{Call, plan, ask, how_many, lowest, Book, book_of, book_from, after, changed, empty}
+use Rattle.roster.specs.Book.{Call, enter, withdraw, possess, give_up, plan, ask, how_many, lowest, Book, book_of, book_from, after, empty}
 use Rattle.roster.specs.Book.{declined as refusal}
-use Rattle.roster.specs.Model.{seen, held}
-use Rattle.roster.specs.Trains.{on_layout}
+use Rattle.roster.specs.Model.{seen}
 use Rattle.sheets.specs.Inquiry.{Inquiry}
 use Rattle.sheets.specs.Plan.{Without}
 use Rattle.sheets.specs.Theorems.{Same}
@@ -21,22 +17,13 @@ use Rattle.groups.proofs.Moved.{whole_moved}
 use Rattle.grouping.specs.Ends.{about}
 use Rattle.planner.specs.declared.planner.Planner.{Planner}
 use Rattle.sheets.specs.Posing.{all_trains}
-use Rattle.planner.specs.Promise.{Setting, Reply, accepted, declined, noted, are_closed, planned, setting, problem, asked, GroupingEnds, SheetOrNone, PlanKept, unless_declined, FromBook, Kept}
-use Rattle.planner.specs.History.{Meaning, setting_of, Stands, Event, Step, Run, calls_of, AllKept, EveryRunKeepsAllReplies, says_done, event, History}
-use Rattle.planner.proofs.Closed.{count_all, lowest_all}
-use Rattle.planner.proofs.Placed.{on_after}
+use Rattle.planner.specs.Promise.{Setting, Reply, accepted, declined, noted, are_closed, planned, setting, problem, asked, GroupingEnds, SheetOrNone, PlanKept, Kept}
+use Rattle.planner.specs.History.{Meaning, setting_of, Stands, Event, Step, Run, calls_of, AllKept, EveryRunKeepsAllReplies, GoesOn}
+use Rattle.planner.specs.Left.{OnlyTheRosterChanges, PlannerLeft}
 
 pub book_more : (n : ℕ) (b : Book) (cs : List Call) (c : Call) → book_from n b (cs ++ (c ∷ [])) ≡ after n (book_from n b cs) c
 book_more n b [] c = refl
 book_more n b (d ∷ cs) c = book_more n (after n b d) cs c
-
-pub done_left : {A : Type 0} (r : Result A Refusal) (new old : Book) → granted r new old ≡ unless (refused_by r) new old
-done_left (Ok u) new old = refl
-done_left (Err e) new old = refl
-
-pub done_says : {C : Type 0} (r : Result (Unit {0}) Refusal) → ◌≡◌ {A = Reply C} (says_done r) (unless_declined (refused_by r) accepted)
-done_says (Ok u) = refl
-done_says (Err e) = refl
 
 -- what is kept where one search takes just what another takes
 module _ {C : Type 0} (l : Layout) (conflicts : Conflicts) (m : Measure C) (t u : Inquiry C → ℕ → Type 0)
@@ -75,15 +62,27 @@ module _ {C : Type 0} (l : Layout) (conflicts : Conflicts) (m : Measure C) (t u 
         beyond_reach = record { to = λ z. ends_to beyond (h.beyond_reach.to z); back = λ z. h.beyond_reach.back (ends_back beyond z) };
       }
 
+-- so is what is kept of any call
+any_kept_moved : {C : Type 0} (l : Layout) (conflicts : Conflicts) (m : Measure C) (t u : Inquiry C → ℕ → Type 0)
+    → ((i : Inquiry C) (n : ℕ) → Same (t i n) (u i n)) → (b : Book) (c : Call) (reply : Reply C) (old new : Sheet)
+    → Kept (setting l conflicts m t) b c reply old new → Kept (setting l conflicts m u) b c reply old new
+any_kept_moved l conflicts m t u e b (enter v s g) reply old new h = h
+any_kept_moved l conflicts m t u e b (withdraw v) reply old new h = h
+any_kept_moved l conflicts m t u e b (possess s) reply old new h = h
+any_kept_moved l conflicts m t u e b (give_up s) reply old new h = h
+any_kept_moved l conflicts m t u e b ask reply old new h = h
+any_kept_moved l conflicts m t u e b (plan steps cells) reply old new h =
+    kept_moved l conflicts m t u e b steps cells (refusal (sections_of l) b (plan steps cells)) reply old new h
+
 module _ {R S Q C : Type 0} (k : Meaning R S Q C) where
-  pub record Moved (p q : Planner R S Q) (c : Call) : Type 0 where
+  record Moved (p q : Planner R S Q) (c : Call) : Type 0 where
     pub layout : q.layout ≡ p.layout
     pub rule : q.rule ≡ p.rule
     pub scale : q.scale ≡ p.scale
     pub takes : (i : Inquiry C) (n : ℕ) → Same (k.takes q.search.below i n) (k.takes p.search.below i n)
     pub book : seen q.roster ≡ after (sections_of p.layout) (seen p.roster) c
 
-  pub stands_next : (p q : Planner R S Q) (c : Call) → Moved p q c → (made : Planner R S Q) (calls : List Call) → Stands k made calls p
+  stands_next : (p q : Planner R S Q) (c : Call) → Moved p q c → (made : Planner R S Q) (calls : List Call) → Stands k made calls p
       → Stands k made (calls ++ (c ∷ [])) q
   stands_next p q c m made calls st =
       let e : after (sections_of p.layout) (seen p.roster) c ≡ after (sections_of made.layout) (book_of (sections_of made.layout) calls) c
@@ -100,98 +99,60 @@ module _ {R S Q C : Type 0} (k : Meaning R S Q C) where
   pub made_stands : (made : Planner R S Q) → seen made.roster ≡ empty → Stands k made [] made
   made_stands made e = record { layout = refl; rule = refl; scale = refl; takes = λ i n. record { to = λ h. h; back = λ h. h }; book = e }
 
-  -- a call that the book answers with r
-  module _ (p : Planner R S Q) (c : Call) {A : Type 0} (r : Result A Refusal) (judged : refused_by r ≡ refusal (sections_of p.layout) (seen p.roster) c)
-      (ro : Roster) (left : seen ro ≡ granted r (changed (seen p.roster) c) (seen p.roster)) where
-    book_after : seen ro ≡ after (sections_of p.layout) (seen p.roster) c
-    book_after = left ∙ done_left r _ _ ∙ ap (λ (z : Option ℕ). unless z (changed (seen p.roster) c) (seen p.roster)) judged
-
-    pub still_placed : on_layout (sections_of p.layout) (held ro) ≡ true
-    still_placed =
-        ap (λ (b : Book). on_layout (sections_of p.layout) b.trains) book_after
-        ∙ on_after (sections_of p.layout) (seen p.roster) c p.placed
-
-    -- and that is told so if it is granted
-    pub called : (given reply : Reply C) → ((w : Setting C) (b : Book) (s : Sheet) → FromBook w b c given reply s s → Kept w b c reply s s)
-        → reply ≡ unless_declined (refused_by r) given
-        → (q : Planner R S Q) → q.layout ≡ p.layout → q.rule ≡ p.rule → q.scale ≡ p.scale → q.search ≡ p.search → q.roster ≡ ro
-        → (s : Sheet) → Step k p (event c reply s s) q
-    called given reply keeps says q layout rule scale search roster s =
-        let m : Moved p q c =
-        record {
-          layout = layout;
-          rule = rule;
-          scale = scale;
-          takes = λ i n. subst (λ z. Same (k.takes z.below i n) (k.takes p.search.below i n)) (sym search) (record { to = λ h. h; back = λ h. h });
-          book = ap seen roster ∙ book_after;
-        } in
-        record {
-          kept = λ made calls st.
-              let e : refusal (sections_of p.layout) (seen p.roster) c ≡ refusal (sections_of made.layout) (book_of (sections_of made.layout) calls) c
-              = λ i. refusal (sections_of (st.layout i)) (st.book i) c in
-              keeps (setting_of k made) (book_of (sections_of made.layout) calls) s (says ∙ ap (λ (z : Option ℕ). unless_declined z given) (judged ∙ e), refl);
-          stands = stands_next p q c m;
-        }
-
-  -- a plan call
-  pub plan_kept : (p : Planner R S Q) (steps cells : ℕ) (o : Option ℕ) (reply : Reply C) (old new : Sheet)
-      → o ≡ refusal (sections_of p.layout) (seen p.roster) (plan steps cells)
-      → PlanKept (setting_of k p) (seen p.roster) steps cells o reply old new
-      → (made : Planner R S Q) (calls : List Call) → Stands k made calls p
-      → Kept (setting_of k made) (book_of (sections_of made.layout) calls) (plan steps cells) reply old new
-  plan_kept p steps cells o reply old new judged h made calls st =
-      let n = sections_of made.layout in
-      let P : Layout × R × S × Book → Type 0 = λ z. PlanKept (setting z.0 (k.conflicts z.1 z.0) (k.measure z.2) (k.takes p.search.below)) z.3 steps cells o reply old new in
-      let way : ◌≡◌ {A = Layout × R × S × Book} (p.layout, p.rule, p.scale, seen p.roster) (made.layout, made.rule, made.scale, book_of n calls) = λ i. (st.layout i, st.rule i, st.scale i, st.book i) in
-      let a = subst P way h in
-      let e : o ≡ refusal n (book_of n calls) (plan steps cells) = judged ∙ (λ i. refusal (sections_of (st.layout i)) (st.book i) (plan steps cells)) in
-      let b = kept_moved made.layout (k.conflicts made.rule made.layout) (k.measure made.scale) (k.takes p.search.below) (k.takes made.search.below) st.takes (book_of n calls) steps cells o reply old new a in
-      let F : Option ℕ → Type 0 = λ z. PlanKept (setting_of k made) (book_of n calls) steps cells z reply old new in
-      subst F e b
-
   unless_same : (o : Option ℕ) (b : Book) → unless o b b ≡ b
   unless_same (Some n) b = refl
   unless_same None b = refl
 
-  -- what `plan` owes, from what its reply owes by the book at hand
-  pub record PlanDone (p q : Planner R S Q) (steps cells : ℕ) (reply : Reply C) (old new : Sheet) : Type 0 where
-    pub answer : PlanKept (setting_of k p) (seen p.roster) steps cells (refusal (sections_of p.layout) (seen p.roster) (plan steps cells)) reply old new
-    pub step : Step k p (event (plan steps cells) reply old new) q
-
-  pub plan_done : (p q : Planner R S Q) (steps cells : ℕ) (o : Option ℕ) (reply : Reply C) (old new : Sheet)
-      → q.layout ≡ p.layout → q.rule ≡ p.rule → q.scale ≡ p.scale → seen q.roster ≡ seen p.roster
-      → o ≡ refusal (sections_of p.layout) (seen p.roster) (plan steps cells)
-      → PlanKept (setting_of k p) (seen p.roster) steps cells o reply old new
-      → ((i : Inquiry C) (n : ℕ) → Same (k.takes q.search.below i n) (k.takes p.search.below i n))
-      → PlanDone p q steps cells reply old new
-  plan_done p q steps cells o reply old new a b d f judged h same =
-      let m : Moved p q (plan steps cells) =
+  roster_moved : (p q : Planner R S Q) (c : Call) → OnlyTheRosterChanges p c q → Moved p q c
+  roster_moved p q c h =
       record {
-        layout = a;
-        rule = b;
-        scale = d;
-        takes = same;
-        book = f ∙ sym (unless_same (refusal (sections_of p.layout) (seen p.roster) (plan steps cells)) (seen p.roster));
-      } in
-      record {
-        answer = subst (λ (z : Option ℕ). PlanKept (setting_of k p) (seen p.roster) steps cells z reply old new) judged h;
-        step = record { kept = plan_kept p steps cells o reply old new judged h; stands = stands_next p q (plan steps cells) m };
+        layout = h.layout;
+        rule = h.rule;
+        scale = h.scale;
+        takes = λ i n. subst (λ z. Same (k.takes z.below i n) (k.takes p.search.below i n)) (sym h.search) (record { to = λ x. x; back = λ x. x });
+        book = h.book;
       }
+
+  left_moved : (p q : Planner R S Q) (c : Call) → PlannerLeft k p c q → Moved p q c
+  left_moved p q (enter v s g) h = roster_moved p q (enter v s g) h
+  left_moved p q (withdraw v) h = roster_moved p q (withdraw v) h
+  left_moved p q (possess s) h = roster_moved p q (possess s) h
+  left_moved p q (give_up s) h = roster_moved p q (give_up s) h
+  left_moved p q ask h =
+      subst (λ (z : Planner R S Q). Moved p z ask) (sym h)
+      (record { layout = refl; rule = refl; scale = refl; takes = λ i n. record { to = λ x. x; back = λ x. x }; book = refl })
+  left_moved p q (plan steps cells) h =
+      record {
+        layout = h.layout;
+        rule = h.rule;
+        scale = h.scale;
+        takes = h.takes;
+        book = ap seen h.roster ∙ sym (unless_same (refusal (sections_of p.layout) (seen p.roster) (plan steps cells)) (seen p.roster));
+      }
+
+  -- what is kept by the book at hand is kept by the book of the calls before it
+  kept_after : (p : Planner R S Q) (c : Call) (reply : Reply C) (old new : Sheet) → Kept (setting_of k p) (seen p.roster) c reply old new
+      → (made : Planner R S Q) (calls : List Call) → Stands k made calls p
+      → Kept (setting_of k made) (book_of (sections_of made.layout) calls) c reply old new
+  kept_after p c reply old new h made calls st =
+      let n = sections_of made.layout in
+      let P : Layout × R × S × Book → Type 0 = λ z. Kept (setting z.0 (k.conflicts z.1 z.0) (k.measure z.2) (k.takes p.search.below)) z.3 c reply old new in
+      let way : ◌≡◌ {A = Layout × R × S × Book} (p.layout, p.rule, p.scale, seen p.roster) (made.layout, made.rule, made.scale, book_of n calls)
+      = λ i. (st.layout i, st.rule i, st.scale i, st.book i) in
+      any_kept_moved made.layout (k.conflicts made.rule made.layout) (k.measure made.scale) (k.takes p.search.below) (k.takes made.search.below)
+      st.takes (book_of n calls) c reply old new (subst P way h)
+
+  -- a call whose reply is right by the book at hand, and which changes no more than it may, is a step
+  pub step_of : (p q : Planner R S Q) (e : Event C) → Kept (setting_of k p) (seen p.roster) e.call e.reply e.before e.afterwards
+      → PlannerLeft k p e.call q → Step k p e q
+  step_of p q e h l =
+      record { kept = kept_after p e.call e.reply e.before e.afterwards h; stands = stands_next p q e.call (left_moved p q e.call l) }
 
   -- a question
-  pub ask_step : (p : Planner R S Q) (count : ℕ) (low : Option ℕ) (s : Sheet)
-      → count ≡ how_many 32 (seen p.roster).closed → low ≡ lowest 32 (seen p.roster).closed → Step k p (event ask (are_closed count low) s s) p
-  ask_step p count low s a b =
-      let m : Moved p p ask = record { layout = refl; rule = refl; scale = refl; takes = λ i j. record { to = λ h. h; back = λ h. h }; book = refl } in
-      record {
-        kept = λ made calls st.
-            let n = sections_of made.layout in
-            let fits : n ≤ 32 = sections_most made.layout in
-            let x : count ≡ how_many n (book_of n calls).closed = a ∙ (λ i. how_many 32 (st.book i).closed) ∙ count_all n calls fits in
-            let y : low ≡ lowest n (book_of n calls).closed = b ∙ (λ i. lowest 32 (st.book i).closed) ∙ lowest_all n calls fits in
-            ((λ i. are_closed (x i) (y i)), refl);
-        stands = stands_next p p ask m;
-      }
+  pub ask_kept : (p : Planner R S Q) (count : ℕ) (low : Option ℕ) (s : Sheet)
+      → count ≡ how_many (sections_of p.layout) (seen p.roster).closed → low ≡ lowest (sections_of p.layout) (seen p.roster).closed
+      → Kept (setting_of k p) (seen p.roster) ask (are_closed count low) s s
+  ask_kept p count low s a b = ((λ i. are_closed (a i) (b i)), refl)
 
   -- a history goes on
   history_more : (w : Setting C) (calls : List Call) (es : List (Event C)) (e : Event C) → AllKept w calls es
@@ -208,8 +169,7 @@ module _ {R S Q C : Type 0} (k : Meaning R S Q C) where
   calls_more [] e = refl
   calls_more (d ∷ es) e = ap (λ (cs : List Call). d.call ∷ cs) (calls_more es e)
 
-  pub history_next : (p q : Planner R S Q) (e : Event C) → Step k p e q → (made : Planner R S Q) (es : List (Event C)) → History k made es p
-      → History k made (es ++ (e ∷ [])) q
+  pub history_next : (p q : Planner R S Q) (e : Event C) → Step k p e q → GoesOn k p e q
   history_next p q e s made es h =
       record {
         stands = subst (λ (cs : List Call). Stands k made cs q) (sym (calls_more es e)) (s.stands made (calls_of es) h.stands);

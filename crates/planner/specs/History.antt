@@ -1,12 +1,12 @@
 -- When a planner is what a list of calls leaves of the planner that was made, and what a run of calls is.
-use Rattle.std.specs.Prelude.{◌≡◌, ℕ, List, [], ◌∷◌, ◌++◌, Ok, Err, Option, Result}
+use Rattle.std.specs.Prelude.{◌≡◌, ℕ, ◌<◌, ◌≤◌, List, [], ◌∷◌, ◌++◌, length, Ok, Err, Option, Result}
 use Rattle.track.specs.Layouts.{sections_of}
-use Rattle.track.specs.Refusals.{number_of, granted}
+use Rattle.track.specs.Refusals.{number_of}
 use Rattle.track.specs.declared.layout.Layout.{Layout}
 use Rattle.track.specs.declared.refusal.Refusal.{Refusal}
 use Rattle.rules.specs.Conflicts.{Conflicts}
 use Rattle.scales.specs.Measure.{Measure}
-use Rattle.roster.specs.Book.{Call, withdraw, possess, give_up, ask, plan, book_of, changed, entry_of}
+use Rattle.roster.specs.Book.{Call, withdraw, possess, give_up, ask, plan, Book, book_of, entry_of}
 use Rattle.roster.specs.Book.{declined as refusal}
 use Rattle.roster.specs.Model.{seen}
 use Rattle.sheets.specs.Inquiry.{Inquiry, plan_of}
@@ -32,10 +32,6 @@ meaning conflicts measure takes = record { conflicts = conflicts; measure = meas
 -- the refusal that a call meets at a planner by the book, if it meets one
 abbrev pub judged : {R S Q : Type 0} → Planner R S Q → Call → Option ℕ
 judged p c = refusal (sections_of p.layout) (seen p.roster) c
-
--- the planner q has the book that a call on p leaves: the change if the call is granted, else the book of p
-abbrev pub Leaves : {R S Q A : Type 0} → (p : Planner R S Q) → Call → Result A Refusal → (q : Planner R S Q) → Type 0
-Leaves p c r q = seen q.roster ≡ granted r (changed (seen p.roster) c) (seen p.roster)
 
 -- the call that an order makes, with so many cells handed in
 abbrev pub call_of : Order → (cells : ℕ) → Call
@@ -91,6 +87,22 @@ AllKept w calls (e ∷ es) =
     Kept w (book_of w.sections calls) e.call e.reply e.before e.afterwards
     × AllKept w (calls ++ (e.call ∷ [])) es
 
+-- a plan call that gives a sheet writes the same into the trains' rows at times 0 to the last,
+-- whatever the sheets held that were handed in
+abbrev pub SameWritten : {C : Type 0} → Book → Call → Reply C → (new other : Sheet) → Type 0
+SameWritten b (plan steps cells) (planned cost groups) new other =
+    (row time : ℕ) → row < length b.trains → time ≤ steps → plan_of new row time ≡ plan_of other row time
+SameWritten b call reply new other = Unit {0}
+
+-- two replies to one call on the book are one, and the sheets agree: where a plan call writes them,
+-- and elsewhere wherever those agreed that were handed in
+pub record OneAnswer {C : Type 0} (b : Book) (c : Call) (r t : Reply C) (old new was other : Sheet)
+    : Type 0 where
+  pub one_reply : r ≡ t
+  pub written : SameWritten b c r new other
+  pub elsewhere : (row time : ℕ) → plan_of old row time ≡ plan_of was row time
+      → plan_of new row time ≡ plan_of other row time
+
 module _ {R S Q C : Type 0} (k : Meaning R S Q C) where
   abbrev pub setting_of : Planner R S Q → Setting C
   setting_of p = setting p.layout (k.conflicts p.rule p.layout) (k.measure p.scale) (k.takes p.search.below)
@@ -115,6 +127,11 @@ module _ {R S Q C : Type 0} (k : Meaning R S Q C) where
     pub stands : Stands made (calls_of es) p
     pub kept : AllKept (setting_of made) [] es
 
+  -- every history of p goes on with this call to one of q
+  abbrev pub GoesOn : (p : Planner R S Q) → Event C → (q : Planner R S Q) → Type 0
+  GoesOn p e q =
+      (made : Planner R S Q) (es : List (Event C)) → History made es p → History made (es ++ (e ∷ [])) q
+
   -- a run: each call is made on the planner that the one before it left
   pub data Run : Planner R S Q → List (Event C) → Planner R S Q → Type 0 where
     rest : {p : Planner R S Q} → Run p [] p
@@ -124,11 +141,10 @@ module _ {R S Q C : Type 0} (k : Meaning R S Q C) where
   abbrev pub EveryRunKeepsAllReplies : Planner R S Q → Type 0
   EveryRunKeepsAllReplies made = (last : Planner R S Q) (es : List (Event C)) → Run made es last → AllKept (setting_of made) [] es
 
-  -- of two replies to one call after the same calls that are both kept, neither differs from the other, whatever the sheets held that were
-  -- handed in; and the sheets agree wherever those did
+  -- after any calls on the planner that was made, the promise of one call more fixes its reply and its sheet
   abbrev pub ThePromiseLeavesNoChoice : Planner R S Q → Type 0
   ThePromiseLeavesNoChoice made =
       (calls : List Call) (c : Call) (r t : Reply C) (old new was other : Sheet)
       → Kept (setting_of made) (book_of (sections_of made.layout) calls) c r old new
       → Kept (setting_of made) (book_of (sections_of made.layout) calls) c t was other
-      → (r ≡ t) × ((row time : ℕ) → plan_of old row time ≡ plan_of was row time → plan_of new row time ≡ plan_of other row time)
+      → OneAnswer (book_of (sections_of made.layout) calls) c r t old new was other

@@ -17,9 +17,10 @@ use Rattle.search.specs.Answers.{OthersKept}
 use Rattle.groups.specs.Course.{Outcome, beyond, none, found}
 use Rattle.grouping.specs.Ends.{Ends}
 
--- what stays as it is from call to call: the sections and links of the layout, which moves conflict on it, the measure of the scale,
--- and which groups the search takes, given what is asked and the number of cells
+-- what stays as it is from call to call: the layout with its sections and links, which moves conflict on it,
+-- the measure of the scale, and which groups the search takes, given what is asked and the number of cells
 pub record Setting (C : Type 0) : Type 1 where
+  pub layout : Layout
   pub sections : ℕ
   pub points : ℕ → ℕ → Option ℕ
   pub conflicts : Conflicts
@@ -29,7 +30,14 @@ pub record Setting (C : Type 0) : Type 1 where
 -- the setting of a layout
 abbrev pub setting : {C : Type 0} → Layout → Conflicts → Measure C → (Inquiry C → ℕ → Type 0) → Setting C
 setting l conflicts measure takes =
-    record { sections = sections_of l; points = look l; conflicts = conflicts; measure = measure; takes = takes }
+    record {
+      layout = l;
+      sections = sections_of l;
+      points = look l;
+      conflicts = conflicts;
+      measure = measure;
+      takes = takes;
+    }
 
 -- what a caller is told: the call was accepted; it was declined, with the number of the reason; it was accepted and gave a note of the
 -- section that it closed; so many sections are closed, and this is the lowest; the sheet has this cost, with so many groups
@@ -53,8 +61,15 @@ problem w b steps = record {
   conflicts = w.conflicts;
 }
 
+-- what a search is asked for them: also the layout as it is, and the trains' numbers
 abbrev pub asked : {C : Type 0} → Setting C → Book → (steps : ℕ) → Inquiry C
-asked w b steps = record { measure = w.measure; problem = problem w b steps; group = all_trains (length b.trains) }
+asked w b steps = record {
+  measure = w.measure;
+  layout = w.layout;
+  number = λ r. (slice_index_or b.trains r no_train).number;
+  problem = problem w b steps;
+  group = all_trains (length b.trains);
+}
 
 -- the grouping, with so many cells, ends so: it asks for a group that the search does not take (`beyond`), it comes to a group that has no
 -- lawful sheet (`none`), or it reaches a number of groups that do not conflict (`found`)

@@ -4,6 +4,7 @@ ghost use Rattle.roster.specs.Book.Call.{plan};
 ghost use Rattle.roster.specs.Model.{seen};
 ghost use Rattle.planner.specs.Promise.{PlanKept};
 ghost use Rattle.planner.specs.History.{meaning, judged, setting_of, Step, event, says_plan};
+ghost use Rattle.planner.specs.Left.{NothingChangesIf, PlanningLeaves};
 
 use crate::planner::Planner;
 use rules::rule::Rule;
@@ -42,9 +43,18 @@ impl<R: Rule, S: Scale, Q: Search<S>> Planner<R, S, Q> {
         cells: &mut [Option<S::Cost>],
         sheet: &mut Sheet,
     ) -> Result<(S::Cost, usize), Refusal>
-        ensures a_refusal_of_the_book_or_the_answer_of_the_grouping { PlanKept (setting_of (meaning R.Rule.conflicts S.Scale.measure Q.Search.takes) self.old) (seen self.old.roster) steps (length cells.old) (judged self.old (plan steps (length cells.old))) (says_plan result) sheet.old sheet.new }
-        ensures planning_leaves_the_book { seen self.new.roster ≡ seen self.old.roster }
-        ensures the_reply_is_kept_after_any_calls { Step (meaning R.Rule.conflicts S.Scale.measure Q.Search.takes) self.old (event (plan steps (length cells.old)) (says_plan result) sheet.old sheet.new) self.new }
+        ensures a_sheet_is_lawful_cheapest_and_first_or_told_to_be_none_or_beyond_reach { PlanKept
+            (setting_of (meaning R.Rule.conflicts S.Scale.measure Q.Search.takes) self.old) (seen self.old.roster)
+            steps (length cells.old) (judged self.old (plan steps (length cells.old)))
+            (says_plan result) sheet.old sheet.new }
+        ensures a_plan_that_the_book_declines_leaves_planner_cells_and_sheet_as_they_were { NothingChangesIf
+            (judged self.old (plan steps (length cells.old)))
+            self.old self.new cells.old cells.new sheet.old sheet.new }
+        ensures planning_leaves_layout_rule_scale_roster_and_which_groups_are_taken { PlanningLeaves
+            (meaning R.Rule.conflicts S.Scale.measure Q.Search.takes) self.old self.new }
+        ensures after_any_calls_a_sheet_is_lawful_cheapest_and_the_first_of_equals { Step
+            (meaning R.Rule.conflicts S.Scale.measure Q.Search.takes) self.old
+            (event (plan steps (length cells.old)) (says_plan result) sheet.old sheet.new) self.new }
     {
         self.check_plan(steps, cells.len())?;
         let group = everyone(&self.roster);

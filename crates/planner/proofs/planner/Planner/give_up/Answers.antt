@@ -1,14 +1,34 @@
 use Rattle.std.proofs.Common.{refl}
 use Rattle.roster.specs.Book.{give_up}
 use Rattle.planner.specs.Promise.{accepted}
-use Rattle.planner.specs.History.{meaning, says_done}
-use Rattle.planner.proofs.Runs.{called, done_says}
+use Rattle.planner.specs.History.{meaning, event, says_done}
+use Rattle.planner.specs.Left.{OnlyTheRosterChanges}
+use Rattle.planner.proofs.Called.{still_placed, still_inside, book_after, from_book, planner_as_it_was, done_says}
+use Rattle.planner.proofs.Runs.{step_of}
 use Rattle.planner.proofs.planner.Planner.give_up.Goals as goal
 
-pub returns-clause-the_reply_is_kept_after_any_calls : goal.returns-clause-the_reply_is_kept_after_any_calls
-returns-clause-the_reply_is_kept_after_any_calls g c =
+pub invariant_of-self : goal.invariant_of-self
+invariant_of-self g c =
     let k = meaning g.R.Rule.conflicts g.S.Scale.measure g.Q.Search.takes in
     let p = c.args.self.now in
     let e = c.open_again.ensures in
-    called k p (give_up c.args.note.section) c.open_again.result e.the_first_condition_met_declines c.open_again.new.self e.a_refusal_changes_nothing
-    accepted (says_done c.open_again.result) (λ w b s h. h) (done_says c.open_again.result) _ refl refl refl refl refl
+    record {
+      placed = still_placed k p (give_up c.args.note.section) c.open_again.result e.the_first_condition_met_declines c.open_again.new.self e.just_the_section_is_opened_or_nothing;
+      closed_inside = still_inside k p (give_up c.args.note.section) c.open_again.result e.the_first_condition_met_declines c.open_again.new.self e.just_the_section_is_opened_or_nothing;
+    }
+
+pub returns : goal.returns
+returns g c =
+    let k = meaning g.R.Rule.conflicts g.S.Scale.measure g.Q.Search.takes in
+    let p = c.args.self.now in
+    let r = c.open_again.result in
+    let e = c.open_again.ensures in
+    let only : OnlyTheRosterChanges p (give_up c.args.note.section) _ = record { layout = refl; rule = refl; scale = refl; search = refl; book = book_after k p (give_up c.args.note.section) r e.the_first_condition_met_declines c.open_again.new.self e.just_the_section_is_opened_or_nothing } in
+    let kept = from_book k p (give_up c.args.note.section) r e.the_first_condition_met_declines c.open_again.new.self e.just_the_section_is_opened_or_nothing accepted (says_done r) (done_says r) in
+    record {
+      the_first_condition_met_declines = e.the_first_condition_met_declines;
+      only_the_roster_changes_as_the_book_says = only;
+      a_declined_call_leaves_the_planner_as_it_was = planner_as_it_was p _ r refl refl refl refl e.a_declined_call_leaves_the_roster_as_it_was;
+      the_reply_is_that_of_the_book_at_hand = kept;
+      after_any_calls_the_reply_is_that_of_the_book = λ s. step_of k p _ (event (give_up c.args.note.section) (says_done r) s s) (kept s) only;
+    }
