@@ -8,7 +8,7 @@ use Rattle.words.specs.Joint.{Joint}
 use Rattle.words.specs.Bridge.{Picks, Bridged, task_of_problem, alone, seen, group_process, group_start, group_word}
 use Rattle.words.specs.Gathering.{row_at}
 use Rattle.words.proofs.BestWords.{answers}
-use Rattle.words.proofs.Prices.{price_size}
+use Rattle.words.proofs.Prices.{price_size, runs_few}
 use Rattle.std.proofs.lemmas.Option.{none-some, same_Some}
 use Rattle.words.proofs.Bridges.{bridge}
 use Rattle.words.proofs.Gathering.{every_group_picks}
@@ -57,7 +57,7 @@ module _ {C : Type 0} (S : Measure C) (Q : Problem) (F : Group) where
         omega arith
 
     prices : (s : Joint) (x : ℕ) → S.size (moving.price s x) ≤ 16
-    prices = price_size S L (task_of_problem (alone Q size row)) M.points_most
+    prices = price_size S L (task_of_problem (alone Q size row)) (runs_few (alone Q size row) M.points_most)
 
     -- the word of the sheet is the word that it is read off
     word_is : (v : List ℕ) → Run moving (size * Q.steps) from v → group_word Q size row (sheet v) ≡ v

@@ -1,10 +1,10 @@
 -- What a worked example asks, as plain data, and how the definitions of the other crates read it.
 use Rattle.std.specs.Prelude.{ℕ, ◌+◌, ◌*◌, Bool, true, ◌&&◌, List, [], ◌∷◌, ◌++◌, length, map, is_none, slice_index, slice_index_or}
 use Rattle.std.specs.List.{list_all}
-use Rattle.track.specs.Links.{points_of}
-use Rattle.track.specs.Fouls.{fouled_by}
+use Rattle.track.specs.Layouts.{fouled}
 use Rattle.track.specs.Model.{Model, blank, widened, with_link, with_foul, sections_declined, link_declined, foul_declined}
 use Rattle.track.specs.declared.foul.Foul.{Foul}
+use Rattle.track.specs.declared.layout.Layout.{Layout}
 use Rattle.track.specs.declared.link.Link.{Link}
 use Rattle.rules.specs.Conflicts.{Conflicts, following, clear_section}
 use Rattle.scales.specs.Measure.{Measure}
@@ -17,6 +17,7 @@ use Rattle.sheets.specs.Problem.{Problem, Group}
 use Rattle.sheets.specs.Plan.{Plan}
 use Rattle.sheets.specs.Posing.{all_trains}
 use Rattle.planner.specs.Promise.{Setting, problem}
+use Rattle.planner.specs.Promise.{setting as of_layout}
 use Rattle.planner.specs.Refusals.{refusals}
 
 pub data Rule : Type 0 where
@@ -62,18 +63,13 @@ calls e = map entry_of e.trains ++ map possess e.closed
 abbrev pub book : Example → Book
 book e = book_of e.drawing.sections (calls e)
 
--- the layout that is drawn so, the rule and the scale, and a search that takes every group
-abbrev pub setting : (e : Example) → Setting (Cost e.scale)
-setting e = record {
-  sections = e.drawing.sections;
-  points = points_of e.drawing.links;
-  conflicts = conflicts_of e.rule (fouled_by e.drawing.fouls);
-  measure = measure_of e.scale;
-  takes = λ i cells. Unit {0};
-}
+-- the setting of a planner on the layout l, under the rule and the scale, over a search that takes
+-- every group
+abbrev pub setting : (e : Example) → Layout → Setting (Cost e.scale)
+setting e l = of_layout l (conflicts_of e.rule (fouled l)) (measure_of e.scale) (λ i cells. Unit {0})
 
-abbrev pub asked : Example → Problem
-asked e = problem (setting e) (book e) e.steps
+abbrev pub asked : (e : Example) → Setting (Cost e.scale) → Problem
+asked e w = problem w (book e) e.steps
 
 abbrev pub group : Example → Group
 group e = all_trains (length (book e).trains)
