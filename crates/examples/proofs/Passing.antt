@@ -3,12 +3,12 @@ use Rattle.std.proofs.Common.{◌≡◌, ℕ, ◌<◌, ◌≤◌, Bool, true, fa
 use Rattle.std.specs.List.{list_all}
 use Rattle.std.proofs.lemmas.Bool.{and_parts, eqb-true, ltb-true, leb-true, lt-ltb, not-true}
 use Rattle.std.proofs.lemmas.List.Sums.{AllPass-from_list_all}
-use Rattle.track.specs.Layouts.{sections_of, look, fouled}
 use Rattle.track.specs.Model.{laid}
 use Rattle.track.specs.declared.layout.Layout.{Layout}
 use Rattle.track.specs.Links.{points_of}
 use Rattle.track.specs.Fouls.{fouled_by}
 use Rattle.track.specs.declared.foul.Foul.{Foul}
+use Rattle.track.proofs.Held.{sections_held, links_held, fouls_held}
 use Rattle.track.proofs.Linking.{points_few}
 use Rattle.track.proofs.Fouling.{fouled_by_swapped}
 use Rattle.rules.specs.Conflicts.{RuleLaws}
@@ -183,8 +183,16 @@ module _ (e : Example) (l : Layout) (links : few_points e.drawing ≡ true) (wel
 
 -- the setting of a planner on a layout is read off what the layout holds
 setting_drawn : (e : Example) (l : Layout) → laid l ≡ e.drawing → on_drawing e l e.drawing ≡ setting e l
-unfolding sections_of look fouled
-setting_drawn e l d = λ i. on_drawing e l (sym d i)
+setting_drawn e l d =
+    (λ i. on_drawing e l (sym d i))
+    ∙ (λ i. record {
+      layout = l;
+      sections = sections_held l i;
+      points = links_held l i;
+      conflicts = conflicts_of e.rule (fouls_held l i);
+      measure = measure_of e.scale;
+      takes = λ j cells. Unit {0};
+    })
 
 pub passed : (e : Example) → test e ≡ true → Yields e
 passed e h =

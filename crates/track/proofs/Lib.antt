@@ -5,3 +5,4 @@ pub mod Made
 pub mod Slots
 pub mod Ends
 pub mod Laws
+pub mod Held

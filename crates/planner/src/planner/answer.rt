@@ -48,7 +48,7 @@ impl<R: Rule, S: Scale, Q: Search<S>> Planner<R, S, Q> {
         cells: &mut [Option<S::Cost>],
         sheet: &mut Sheet,
     ) -> Result<Told<S::Cost>, Refusal>
-        ensures the_call_is_done { CallDone
+        ensures the_reply_is_right_and_only_what_the_call_is_about_changes { CallDone
             (meaning R.Rule.conflicts S.Scale.measure Q.Search.takes) self.old
             (event (call_of order (length cells.old)) (reply_of result) sheet.old sheet.new)
             cells.old cells.new self.new }

@@ -8,7 +8,7 @@ returns g c =
     let k = meaning g.R.Rule.conflicts g.S.Scale.measure g.Q.Search.takes in
     let p = c.args.self.now in
     let e = event (call_of c.args.order (length c.args.cells.now)) (reply_of c.make_call.result) c.args.sheet.now c.make_call.new.sheet in
-    let done = c.make_call.ensures.the_call_is_done in
+    let done = c.make_call.ensures.the_reply_is_right_and_only_what_the_call_is_about_changes in
     let step = step_of k p c.make_call.new.self e done.reply done.planner in
     record {
       the_reply_is_that_of_the_book_at_hand_or_tells_of_a_sheet_lawful_cheapest_and_first = done.reply;
