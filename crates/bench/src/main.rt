@@ -42,7 +42,8 @@ fn run_case<T: Report>(rt: &HostRuntime, report: &T, case: &Case) -> anyhow::Res
         let mut walk = Walk::new(3).unwrap();
         report.tell(rt, "walk", &mut walk, &asked, cells.as_mut_slice())?;
     }
-    report.tell(rt, "table", &mut Table, &asked, cells.as_mut_slice())
+    let mut table = Table::new(rt.alloc())?;
+    report.tell(rt, "table", &mut table, &asked, cells.as_mut_slice())
 }
 
 fn run_all<T: Report>(rt: &HostRuntime, report: &T) -> anyhow::Result<()> {

@@ -15,6 +15,7 @@ use sheets::asked::Asked;
 use sheets::everyone::everyone;
 use sheets::pose::ask;
 use sheets::sheet::Sheet;
+use std::alloc::Global;
 use std::process::Abort;
 use std::test::Fail;
 use table::table::Table;
@@ -91,6 +92,7 @@ fn planned<S: Scale, R: Rule, Q: Search<S>>(
 // The walk's answer by steps; the table's with just so many cells is the same, and with one fewer the group is beyond its reach.
 fn by_both<R: Rule>(
     rt: &impl Abort,
+    alloc: Global,
     rule: &R,
     cells: &mut [Option<u16>],
     trains: &[Train],
@@ -100,17 +102,18 @@ fn by_both<R: Rule>(
 {
     let mut walk = Walk::new(2)?;
     let told = planned(&mut walk, rule, &Steps, &mut [None], trains, steps)?;
-    let again = planned(&mut Table, rule, &Steps, cells, trains, steps)?;
+    let mut table = Table::new(alloc)?;
+    let again = planned(&mut table, rule, &Steps, cells, trains, steps)?;
     assert_eq!(rt; again, told);
     let fewer = cells.len() - 1;
-    let beyond = planned(&mut Table, rule, &Steps, &mut cells[..fewer], trains, steps)?;
+    let beyond = planned(&mut table, rule, &Steps, &mut cells[..fewer], trains, steps)?;
     assert_eq!(rt; beyond, (Err(Unplanned::BeyondReach), BLANK));
     Ok(told)
 }
 
 #[test]
 fn alone_by_steps(rt: HostRuntime) -> Result<(), Fail> {
-    let (answer, sheet) = by_both(&rt, &Following, &mut [None; 25], &[SEVEN], 4)?;
+    let (answer, sheet) = by_both(&rt, rt.alloc(), &Following, &mut [None; 25], &[SEVEN], 4)?;
     assert_eq!(rt; answer, Ok(3));
     assert_eq!(rt; sheet.rows[0], row(&[0, 1, 2, 3, 3]));
     assert_eq!(rt; sheet.rows[1], BLANK.rows[1]);
@@ -129,7 +132,7 @@ fn alone_by_points(rt: HostRuntime) -> Result<(), Fail> {
         4,
     )?;
     let again = planned(
-        &mut Table,
+        &mut Table::new(rt.alloc())?,
         &Following,
         &StepsThenPoints,
         &mut [None; 25],
@@ -149,7 +152,14 @@ fn alone_by_points(rt: HostRuntime) -> Result<(), Fail> {
 
 #[test]
 fn two_following(rt: HostRuntime) -> Result<(), Fail> {
-    let (answer, sheet) = by_both(&rt, &Following, &mut [None; 125], &[SEVEN, NINE], 4)?;
+    let (answer, sheet) = by_both(
+        &rt,
+        rt.alloc(),
+        &Following,
+        &mut [None; 125],
+        &[SEVEN, NINE],
+        4,
+    )?;
     assert_eq!(rt; answer, Ok(6));
     assert_eq!(rt; sheet.rows[0], row(&[0, 1, 4, 3, 3]));
     assert_eq!(rt; sheet.rows[1], row(&[3, 2, 1, 0, 0]));
@@ -158,7 +168,14 @@ fn two_following(rt: HostRuntime) -> Result<(), Fail> {
 
 #[test]
 fn two_with_clear_sections(rt: HostRuntime) -> Result<(), Fail> {
-    let (answer, sheet) = by_both(&rt, &ClearSection, &mut [None; 125], &[NINE, SEVEN], 4)?;
+    let (answer, sheet) = by_both(
+        &rt,
+        rt.alloc(),
+        &ClearSection,
+        &mut [None; 125],
+        &[NINE, SEVEN],
+        4,
+    )?;
     assert_eq!(rt; answer, Ok(7));
     assert_eq!(rt; sheet.rows[0], row(&[0, 1, 4, 3, 3]));
     assert_eq!(rt; sheet.rows[1], row(&[3, 2, 2, 1, 0]));
@@ -167,7 +184,14 @@ fn two_with_clear_sections(rt: HostRuntime) -> Result<(), Fail> {
 
 #[test]
 fn none_in_three_steps(rt: HostRuntime) -> Result<(), Fail> {
-    let told = by_both(&rt, &ClearSection, &mut [None; 100], &[SEVEN, NINE], 3)?;
+    let told = by_both(
+        &rt,
+        rt.alloc(),
+        &ClearSection,
+        &mut [None; 100],
+        &[SEVEN, NINE],
+        3,
+    )?;
     assert_eq!(rt; told, (Err(Unplanned::NoSheet), BLANK));
     Ok(())
 }

@@ -1,6 +1,7 @@
 -- The search of one joint step: a turn of its loop, its end and its last train.
-use Rattle.std.proofs.Common.{◌≡◌, ℕ, ◌+◌, ◌<◌, ◌≤◌, Bool, true, false, cond, List, length, get_or, take, Some, None, Option, sym, refl, ap, subst, ◌∙◌, arith, length-take-le, get_or-take}
+use Rattle.std.proofs.Common.{◌≡◌, ℕ, ◌+◌, ◌<◌, ◌≤◌, Bool, true, false, cond, List, length, get_or, take, set, Some, None, Option, sym, refl, ap, subst, ◌∙◌, arith, length-set, length-take-le, get_or-take}
 use Rattle.std.proofs.lemmas.Bool.{and_left}
+use Rattle.std.proofs.lemmas.List.Edits.{fill_by_more}
 use Rattle.track.specs.Layouts.{sections_of}
 use Rattle.track.specs.declared.layout.Layout.{Layout}
 use Rattle.rules.specs.Conflicts.{Conflicts}
@@ -21,6 +22,14 @@ use Rattle.table.proofs.Tryings.{pick_at, tried_cost, tried_moves}
 pub record Filling {C : Type 0} (S : Measure C) (K : Task) (t : Turn) (xs : List ℕ) (i : ℕ) (run : List (Option C)) : Type 0 where
   pub long : length run ≡ 33
   pub filled : (p : ℕ) → p < i → get_or run p None ≡ move_cost S K t (get_or xs p 0)
+
+-- the cell of one candidate more
+pub filled_more : {C : Type 0} (S : Measure C) (K : Task) (t : Turn) (xs : List ℕ) (i : ℕ) (run : List (Option C)) (o : Option C)
+    → Filling S K t xs i run → i < 33 → o ≡ move_cost S K t (get_or xs i 0) → Filling S K t xs (i + 1) (set run i o)
+filled_more S K t xs i run o F h e = record {
+  long = length-set run i o ∙ F.long;
+  filled = rw e (fill_by_more (λ p. move_cost S K t (get_or xs p 0)) run i None (omega (arith, F.long)) F.filled);
+}
 
 -- the first of the least, of cells that are the same
 least_same : {C : Type 0} (S : Measure C) (n m : ℕ) (f g : ℕ → Option C) (r : Option (ℕ × C)) → m ≡ n → ((i : ℕ) → i < n → f i ≡ g i) → FirstLeast S m f r → FirstLeast S n g r

@@ -1,6 +1,6 @@
 -- The neighbours of a section and itself, put together in rising order.
 use Rattle.std.proofs.Common.{◌≡◌, ℕ, zero, suc, ◌+◌, ◌-◌, ◌<◌, ◌≤◌, true, false, eqb, List, length, get_or, is_some, Some, None, Option, sym, refl, ap, ◌∙◌, subst, ⊎_elim, arith}
-use Rattle.std.proofs.lemmas.Bool.{cases_lt, or_cases, eqb-true, both_ways}
+use Rattle.std.proofs.lemmas.Bool.{cases_lt, or_cases, or_left, or_right, eqb-true, eq-eqb, both_ways}
 use Rattle.std.proofs.lemmas.List.Edits.{length-insert, get_or-insert_below, get_or-insert_at, get_or-insert_above}
 use Rattle.std.specs.List.{insert}
 use Rattle.track.specs.Layouts.{sections_of, look, Neighbours}
@@ -30,6 +30,9 @@ module _ (l : Layout) (a : ℕ) (xs : List ℕ) (N : Neighbours l a xs) where
 
   pub not_falling : (i j : ℕ) → i ≤ j → j < length xs → get_or xs i 0 ≤ get_or xs j 0
   not_falling i j h k = ⊎_elim (λ u. omega (arith, N.rising i j u k)) (λ u. let e : i ≡ j = omega arith in omega (arith, ap (λ z. get_or xs z 0) e)) (cases_lt i j)
+
+  linked : (i : ℕ) → i < length xs → reached l a (get_or xs i 0) ≡ true
+  linked i h = or_right (eqb a (get_or xs i 0)) (is_some (look l a (get_or xs i 0))) (N.linked i h)
 
   -- the section itself is none of them
   apart : (i : ℕ) → i < length xs → a ≡ get_or xs i 0 → ⊥
@@ -84,6 +87,7 @@ module _ (l : Layout) (a : ℕ) (xs : List ℕ) (N : Neighbours l a xs) where
     candidates_all h = record {
       few = omega (arith, long, few);
       rising = up;
+      in_reach = each (λ i y. reached l a y ≡ true) (λ i v. linked i (omega arith)) (or_left (eqb a a) (is_some (look l a a)) (eq-eqb a a refl)) (λ i v k. linked (i - 1) (omega (arith, long)));
       inside = each (λ i y. y < sections_of l) (λ i v. on i (omega arith)) h (λ i v k. on (i - 1) (omega (arith, long)));
       every = λ x k e. ⊎_elim
           (λ u. (cut, omega (arith, long), here ∙ eqb-true a x u))

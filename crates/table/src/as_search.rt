@@ -1,6 +1,6 @@
-ghost use Rattle.std.specs.Prelude.{◌≡◌, ◌+◌, ◌*◌, ◌^◌, ◌≤◌, length};
-ghost use Rattle.track.specs.Layouts.{sections_of};
-ghost use Rattle.search.specs.Answers.{Answered};
+ghost use Rattle.std.specs.Prelude.{◌≡◌, ◌+◌, ◌*◌, ◌^◌, ◌≤◌, Err, length};
+ghost use Rattle.search.specs.Answers.{SameMeaning, Answered};
+ghost use Rattle.search.specs.declared.answer.Unplanned.TheVariants.{BeyondReach};
 ghost use Rattle.sheets.specs.Inquiry.{inquired, trains};
 ghost use Rattle.words.specs.Tasks.{SolutionFor};
 ghost use Rattle.table.specs.Columns.{Enough, KeptFrom};
@@ -25,49 +25,53 @@ use words::group::Group;
 fn best_of<S: Scale, R: Rule>(
     positions: &Positions<S, R>,
     cells: &mut [Option<S::Cost>],
+    room: &mut [Option<S::Cost>],
 ) -> Option<Found<S::Cost>>
-    requires room { positions.now.count * (positions.now.group.now.steps + 1) ≤ length cells.old }
+    requires a_run_for_each_train { 33 * positions.now.group.now.board.trains ≤ length room.old }
+    requires cells { positions.now.count * (positions.now.group.now.steps + 1) ≤ length cells.old }
     ensures the_least_cost_and_the_first_sheet_that_has_it { SolutionFor R.Rule.conflicts S.Scale.measure positions.now.group.now result }
 {
-    fill(positions, cells);
-    read_off(&Ahead {
+    fill(positions, cells, room);
+    let ahead = Ahead {
         group: positions.group,
         rests: &Filled { cells, positions },
         most: positions.group.steps,
-    })
+    };
+    read_off(&ahead, room)
 }
 
-// Asks for the best sheet of the question's group, in the first of the cells.
-pub fn plan<S: Scale, R: Rule>(
-    asked: &Asked<R, S>,
-    cells: &mut [Option<S::Cost>],
-    sheet: &mut Sheet,
-) -> Answer<S::Cost>
-    ensures the_answer_is_right { Answered (inquired R.Rule.conflicts S.Scale.measure asked.now) (Enough (inquired R.Rule.conflicts S.Scale.measure asked.now) (length cells.old)) sheet.old sheet.new result }
-    ensures the_cells_beyond_its_own_are_left_alone { KeptFrom (sections_of asked.now.question.now.layout.now ^ trains (inquired R.Rule.conflicts S.Scale.measure asked.now) * (asked.now.question.now.steps + 1)) cells.old cells.new }
-{
-    let group = Group::of(asked);
-    let positions = Positions::of(&group);
-    let used = positions.count * (group.steps + 1);
-    if used > cells.len() {
-        return Err(Unplanned::BeyondReach);
-    }
-    let found = best_of(&positions, &mut cells[..used]);
-    group.answer(found, sheet)
-}
-
-impl<S: Scale> Search<S> for Table {
+impl<S: Scale> Search<S> for Table<S::Cost> {
     // it takes a group exactly if there is a cell for each time and each joint position of its trains
     ghost takes = { λ _ i cells. Enough i cells };
 
     ghost one_train = { λ s i cells h. one_train_lem i cells h };
 
+    // It asks in the first of the cells.
     fn search<R: Rule>(
         &mut self,
         asked: &Asked<R, S>,
         cells: &mut [Option<S::Cost>],
         sheet: &mut Sheet,
-    ) -> Answer<S::Cost> {
-        plan(asked, cells, sheet)
+    ) -> Answer<S::Cost>
+        ensures asking_leaves_the_meaning { SameMeaning (⟦<Table<S::Cost> as Search<S>>⟧.takes self.new)
+            (⟦<Table<S::Cost> as Search<S>>⟧.takes self.old) }
+        ensures the_answer_is_right { let asks = inquired R.Rule.conflicts S.Scale.measure asked.now in
+            let taken = ⟦<Table<S::Cost> as Search<S>>⟧.takes self.old asks (length cells.old) in
+            Answered asks taken sheet.old sheet.new result }
+        ensures its_meaning_is_a_cell_for_each_time_and_each_joint_position { SameMeaning
+            (⟦<Table<S::Cost> as Search<S>>⟧.takes self.old) Enough }
+        ensures the_cells_beyond_its_own_are_left_alone { let asks = inquired R.Rule.conflicts S.Scale.measure asked.now in
+            let used = asks.problem.sections ^ trains asks * (asks.problem.steps + 1) in
+            KeptFrom used cells.old cells.new }
+        ensures beyond_reach_all_cells_are_left_alone { result ≡ Err BeyondReach → cells.new ≡ cells.old }
+    {
+        let group = Group::of(asked);
+        let positions = Positions::of(&group);
+        let used = positions.count * (group.steps + 1);
+        if used > cells.len() {
+            return Err(Unplanned::BeyondReach);
+        }
+        let found = best_of(&positions, &mut cells[..used], &mut self.room);
+        group.answer(found, sheet)
     }
 }

@@ -8,7 +8,7 @@ use track::list::FixedList;
 // The sections in which a train from a may be after a step, in rising order: its neighbours below it, itself, and those above it.
 pub(crate) fn candidates(layout: &Layout, a: u8) -> FixedList<u8, 33>
     requires { a < sections_of layout.now }
-    ensures every_section_in_reach_in_rising_order { Candidates (sections_of layout.now) (reached layout.now a) result }
+    ensures just_the_sections_in_reach_in_rising_order { Candidates (sections_of layout.now) (reached layout.now a) result }
 {
     let neighbours = layout.neighbours(a);
     let (below, above) = neighbours.split_at(neighbours.partition_point(|x| *x < a));

@@ -30,8 +30,10 @@ fn fill_next<S: Scale, R: Rule>(
     filled: &Filled<S, R, S::Cost>,
     left: usize,
     column: &mut [Option<S::Cost>],
+    room: &mut [Option<S::Cost>],
 )
-    requires room { left * filled.now.positions.now.count + filled.now.positions.now.count ≤ length filled.now.cells.now }
+    requires a_run_for_each_train { 33 * filled.now.positions.now.group.now.board.trains ≤ length room.old }
+    requires cells { left * filled.now.positions.now.count + filled.now.positions.now.count ≤ length filled.now.cells.now }
     requires columns { Columns (S.Scale.measure filled.now.positions.now.group.now.board.scale.now) (task R.Rule.conflicts filled.now.positions.now.group.now.board) left filled.now.positions.now.count filled.now.cells.now }
     requires a_cell_each { length column.old ≡ filled.now.positions.now.count }
     ensures the_column_is_filled { Column (S.Scale.measure filled.now.positions.now.group.now.board.scale.now) (task R.Rule.conflicts filled.now.positions.now.group.now.board) (left + 1) filled.now.positions.now.count column.new }
@@ -43,13 +45,18 @@ fn fill_next<S: Scale, R: Rule>(
     };
     for (code, cell) in column.iter_mut().enumerate() {
         let at = filled.positions.decode(code);
-        *cell = least_rest(&ahead, Turn::begin(left, at));
+        *cell = least_rest(&ahead, Turn::begin(left, at), room);
     }
 }
 
 // Works out the cost still to come, last time first: one cell for each time and each joint position.
-pub(crate) fn fill<S: Scale, R: Rule>(positions: &Positions<S, R>, cells: &mut [Option<S::Cost>])
-    requires room { positions.now.group.now.steps * positions.now.count + positions.now.count ≤ length cells.old }
+pub(crate) fn fill<S: Scale, R: Rule>(
+    positions: &Positions<S, R>,
+    cells: &mut [Option<S::Cost>],
+    room: &mut [Option<S::Cost>],
+)
+    requires a_run_for_each_train { 33 * positions.now.group.now.board.trains ≤ length room.old }
+    requires cells { positions.now.group.now.steps * positions.now.count + positions.now.count ≤ length cells.old }
     ensures every_cell_has_the_least_cost_of_the_rest { Columns (S.Scale.measure positions.now.group.now.board.scale.now) (task R.Rule.conflicts positions.now.group.now.board) positions.now.group.now.steps positions.now.count cells.new }
 {
     fill_last(positions, &mut cells[..positions.count]);
@@ -59,6 +66,6 @@ pub(crate) fn fill<S: Scale, R: Rule>(positions: &Positions<S, R>, cells: &mut [
             cells: done,
             positions,
         };
-        fill_next(&filled, left, &mut rest[..positions.count]);
+        fill_next(&filled, left, &mut rest[..positions.count], room);
     }
 }

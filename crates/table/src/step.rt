@@ -1,4 +1,4 @@
-ghost use Rattle.std.specs.Prelude.{◌≡◌, ◌+◌, ◌<◌, ◌≤◌};
+ghost use Rattle.std.specs.Prelude.{◌≡◌, ◌+◌, ◌-◌, ◌*◌, ◌<◌, ◌≤◌, length};
 ghost use Rattle.words.specs.Rests.{On};
 ghost use Rattle.words.specs.Tasks.{task};
 ghost use Rattle.words.specs.Turns.{move_cost, rest_of};
@@ -22,14 +22,16 @@ use words::turn::Turn;
 pub(crate) fn least_rest<S: Scale, R: Rule, N: Rests<S::Cost>>(
     ahead: &Ahead<S, R, N>,
     turn: Turn,
+    room: &mut [Option<S::Cost>],
 ) -> Option<S::Cost>
     requires ready { Ready (task R.Rule.conflicts ahead.now.group.now.board) ahead.now.most turn }
+    requires a_run_for_each_train_yet_to_move { 33 * (ahead.now.group.now.board.trains - turn.moved) ≤ length room.old }
     ensures the_least_cost_of_the_rest { result ≡ rest_of (S.Scale.measure ahead.now.group.now.board.scale.now) (task R.Rule.conflicts ahead.now.group.now.board) turn }
 {
     if turn.moved == ahead.group.board.trains {
         return ahead.rest(turn.left, turn.to);
     }
-    best_move(ahead, turn).map(|pick| pick.cost)
+    best_move(ahead, turn, room).map(|pick| pick.cost)
 }
 
 // What the move of the next train to x costs with all that is still to come, if it may be made.
@@ -38,9 +40,11 @@ fn move_cost<S: Scale, R: Rule, N: Rests<S::Cost>>(
     ahead: &Ahead<S, R, N>,
     turn: Turn,
     x: u8,
+    room: &mut [Option<S::Cost>],
 ) -> Option<S::Cost>
     requires ready { Ready (task R.Rule.conflicts ahead.now.group.now.board) ahead.now.most turn }
     requires yet_to_move { turn.moved < ahead.now.group.now.board.trains }
+    requires a_run_for_each_train_after_it { 33 * (ahead.now.group.now.board.trains - (turn.moved + 1)) ≤ length room.old }
     requires inside { x < (task R.Rule.conflicts ahead.now.group.now.board).sections }
     ensures the_price_joined_with_the_rest { result ≡ move_cost (S.Scale.measure ahead.now.group.now.board.scale.now) (task R.Rule.conflicts ahead.now.group.now.board) turn x }
 {
@@ -48,7 +52,7 @@ fn move_cost<S: Scale, R: Rule, N: Rests<S::Cost>>(
     if !group.board.may_move(&turn, x) {
         return None;
     }
-    let rest = least_rest(ahead, turn.after(x))?;
+    let rest = least_rest(ahead, turn.after(x), room)?;
     let price = group.board.move_price(&turn, x);
     Some(group.board.scale.join(price, rest))
 }
@@ -59,19 +63,21 @@ fn move_cost<S: Scale, R: Rule, N: Rests<S::Cost>>(
 pub(crate) fn best_move<S: Scale, R: Rule, N: Rests<S::Cost>>(
     ahead: &Ahead<S, R, N>,
     turn: Turn,
+    room: &mut [Option<S::Cost>],
 ) -> Option<Pick<S::Cost>>
     requires ready { Ready (task R.Rule.conflicts ahead.now.group.now.board) ahead.now.most turn }
     requires yet_to_move { turn.moved < ahead.now.group.now.board.trains }
+    requires a_run_for_each_train_yet_to_move { 33 * (ahead.now.group.now.board.trains - turn.moved) ≤ length room.old }
     ensures the_least_and_the_first_that_makes_it_up { Picked (S.Scale.measure ahead.now.group.now.board.scale.now) (task R.Rule.conflicts ahead.now.group.now.board) turn result }
 {
     let group = ahead.group;
     let tries = candidates(group.board.layout, turn.at[turn.moved]);
     let sections = tries.items();
-    // room for every try, so that no memory is asked for; a cell is written by its place,
+    // a run of cells, one for each try, and the room of the trains after this one; a cell is written by its place,
     // since after a loop over a zip with `iter_mut` a proof knows no cell that it wrote
-    let mut run = [None; 33];
+    let (run, rest) = room.split_at_mut(33);
     for (i, x) in sections.iter().enumerate() {
-        run[i] = move_cost(ahead, turn, *x);
+        run[i] = move_cost(ahead, turn, *x, rest);
     }
     let (place, cost) = first_least(group.board.scale, &run[..sections.len()])?;
     Some(Pick {
@@ -86,15 +92,17 @@ pub(crate) fn joint_step<S: Scale, R: Rule, N: Rests<S::Cost>>(
     ahead: &Ahead<S, R, N>,
     left: usize,
     at: [u8; 8],
+    room: &mut [Option<S::Cost>],
 ) -> [u8; 8]
     requires so_many_are_known { left ≤ ahead.now.most }
     requires on_the_layout { On (task R.Rule.conflicts ahead.now.group.now.board) ahead.now.group.now.board.trains at }
+    requires a_run_for_each_train { 33 * ahead.now.group.now.board.trains ≤ length room.old }
     requires can { Can (S.Scale.measure ahead.now.group.now.board.scale.now) (task R.Rule.conflicts ahead.now.group.now.board) (left + 1) at }
     ensures the_best_word_goes_on_from_there { Stepped (S.Scale.measure ahead.now.group.now.board.scale.now) (task R.Rule.conflicts ahead.now.group.now.board) left at result }
 {
     let mut turn = Turn::begin(left, at);
     for _ in 0..ahead.group.board.trains {
-        let pick = best_move(ahead, turn).unwrap();
+        let pick = best_move(ahead, turn, room).unwrap();
         turn = turn.after(pick.section);
     }
     turn.to

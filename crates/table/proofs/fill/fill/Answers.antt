@@ -16,7 +16,7 @@ loop-left-preserved g c =
     let a : c.loop-left.left + 1 ≤ c.args.positions.now.group.now.steps = omega (arith, c.loop-left-test.true) in
     let s : n ≤ n = omega arith in
     let m : (c.loop-left.left + 1) * n ≤ c.args.positions.now.group.now.steps * n = mul-le-mul a s in
-    let h : n ≤ length c.split_at_mut-done.result.1.now = omega (arith, c.split_at_mut-done.ensures.back_len, c.requires.room, c.loop-left.auto.cells) in
+    let h : n ≤ length c.split_at_mut-done.result.1.now = omega (arith, c.split_at_mut-done.ensures.back_len, c.requires.cells, c.loop-left.auto.cells) in
     let f : length c.fill_next.new.column ≡ n = search rules in
     columns_more S K n c.loop-left.left c.split_at_mut-done.result.0.now c.fill_next.new.column _ c.split_at_mut-done.ensures.front_len f
     (subst (Columns S K c.loop-left.left n) (sym c.split_at_mut-done.ensures.front) (columns_front S K n c.loop-left.left c.loop-left.cells c.loop-left.invariant)) c.fill_next.ensures.the_column_is_filled

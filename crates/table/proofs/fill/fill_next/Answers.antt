@@ -6,13 +6,11 @@ use Rattle.table.proofs.Worksheets.{ready_start, filled_tells, due_next}
 use Rattle.table.proofs.fill.fill_next.Goals as goal
 
 pub invariant_of-ahead : goal.invariant_of-ahead
-invariant_of-ahead g c = record { knows = ∣ filled_tells g.R.Rule.conflicts _ c.args.filled.now c.args.left c.requires.room c.requires.columns ∣₁ }
+invariant_of-ahead g c = record { knows = ∣ filled_tells g.R.Rule.conflicts _ c.args.filled.now c.args.left c.requires.cells c.requires.columns ∣₁ }
 
-pub least_rest-requires : goal.least_rest-requires
-least_rest-requires g c =
-    record {
-      ready = rw c.begin.ensures.no_train_has_moved (ready_start g.R.Rule.conflicts c.args.filled.now.positions.now c.args.left c.loop-code.code c.decode-at.result (omega (arith, c.loop-code-test.true, c.requires.a_cell_each)) c.decode-at.ensures.the_digits_of_the_code);
-    }
+pub least_rest-requires-clause-ready : goal.least_rest-requires-clause-ready
+least_rest-requires-clause-ready g c =
+    rw c.begin.ensures.no_train_has_moved (ready_start g.R.Rule.conflicts c.args.filled.now.positions.now c.args.left c.loop-code.code c.decode-at.result (omega (arith, c.loop-code-test.true, c.requires.a_cell_each)) c.decode-at.ensures.the_digits_of_the_code)
 
 pub loop-code-preserved : goal.loop-code-preserved
 loop-code-preserved g c =

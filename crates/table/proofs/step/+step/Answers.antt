@@ -1,6 +1,6 @@
 use Rattle.std.proofs.Common.{◌≡◌, length, None, Some, sym, ap, ◌∙◌, arith, rules}
 use Rattle.words.specs.Tasks.{task}
-use Rattle.table.proofs.Choosing.{row_move, row_none, picked_on}
+use Rattle.table.proofs.Choosing.{filled_more, row_move, row_none, picked_on}
 use Rattle.table.proofs.step.+step.Goals as goal
 
 pub best_move-returns-in_err-place : goal.best_move-returns-in_err-place
@@ -9,7 +9,7 @@ best_move-returns-in_err-place g t c =
     record {
       the_least_and_the_first_that_makes_it_up = rw c.from_residual.ensures
           (picked_on g.R.Rule.conflicts c.args.ahead.now.group.now.board _ (g.met.S.Scale.lawful _) c.args.turn c.requires.yet_to_move (search rules) (search rules) _ c.items-sections.result.now c.loop-i.run c.loop-i.i None
-          c.candidates-tries.ensures.every_section_in_reach_in_rising_order c.items-sections.ensures.the_items_in_their_order c.loop-i.invariant e c.in_err-place.ensures.the_first_of_the_least);
+          c.candidates-tries.ensures.just_the_sections_in_reach_in_rising_order c.items-sections.ensures.the_items_in_their_order c.loop-i.invariant e c.in_err-place.ensures.the_first_of_the_least);
     }
 
 pub best_move-returns : goal.best_move-returns
@@ -18,7 +18,7 @@ best_move-returns g t c =
     record {
       the_least_and_the_first_that_makes_it_up =
           picked_on g.R.Rule.conflicts c.args.ahead.now.group.now.board _ (g.met.S.Scale.lawful _) c.args.turn c.requires.yet_to_move (search rules) (search rules) _ c.items-sections.result.now c.loop-i.run c.loop-i.i (Some (c.in_ok-place.place, c.in_ok-place.cost))
-          c.candidates-tries.ensures.every_section_in_reach_in_rising_order c.items-sections.ensures.the_items_in_their_order c.loop-i.invariant e c.in_ok-place.ensures.the_first_of_the_least;
+          c.candidates-tries.ensures.just_the_sections_in_reach_in_rising_order c.items-sections.ensures.the_items_in_their_order c.loop-i.invariant e c.in_ok-place.ensures.the_first_of_the_least;
     }
 
 pub move_cost-returns-then-not-may_move : goal.move_cost-returns-then-not-may_move
@@ -41,3 +41,9 @@ move_cost-returns g t c =
           ∙ row_move S (task g.R.Rule.conflicts c.args.ahead.now.group.now.board) c.args.turn c.requires.yet_to_move (search rules) (search rules) c.args.x (Some c.in_ok-rest.rest)
           (sym c.if-not-may_move.ensures.whether_the_move_is_open_and_meets_no_conflict) (rw c.after.ensures.the_next_train_has_gone_there at c.in_ok-rest.ensures.the_least_cost_of_the_rest);
     }
+
+pub best_move-loop-i-preserved : goal.best_move-loop-i-preserved
+best_move-loop-i-preserved g t c =
+    filled_more _ _ c.args.turn c.items-sections.result.now c.loop-i.i c.loop-i.run c.move_cost.result c.loop-i.invariant
+    (omega (arith, c.loop-i-test.true, ap length c.items-sections.ensures.the_items_in_their_order, c.candidates-tries.ensures.just_the_sections_in_reach_in_rising_order.few))
+    c.move_cost.ensures.the_price_joined_with_the_rest
