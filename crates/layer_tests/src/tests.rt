@@ -11,6 +11,7 @@ use sheets::asked::Asked;
 use sheets::sheet::Sheet;
 use single_check::check::Check;
 use single_check::reach::fewest_steps;
+use std::alloc::Global;
 use std::process::Abort;
 use std::test::Fail;
 use table::table::Table;
@@ -78,20 +79,23 @@ fn written(rows: &[&[u8]]) -> Sheet {
 
 // The answer of the grouping over the table, the cost and the number of groups, and the sheet.
 fn grouped<R: Rule>(
+    alloc: Global,
     rule: &R,
     cells: &mut [Option<u16>],
     case: Case,
-) -> Result<(Answer<(u16, usize)>, Sheet), Refusal> {
-    case.told(|question| {
+) -> Result<(Answer<(u16, usize)>, Sheet), Fail> {
+    let mut grouping = Grouping::over(Table::new(alloc)?);
+    let told = case.told(|question| {
         let asked = Asked {
             rule,
             scale: &Steps,
             question,
         };
         let mut sheet = BLANK;
-        let answer = Grouping::over(Table).plan(&asked, cells, &mut sheet);
+        let answer = grouping.plan(&asked, cells, &mut sheet);
         (answer, sheet)
-    })
+    })?;
+    Ok(told)
 }
 
 // The answer of a search, and the sheet.
@@ -133,7 +137,7 @@ fn two_that_never_meet_stay_two_groups(rt: HostRuntime) -> Result<(), Fail> {
         ..CHANGE
     };
     assert_eq!(rt;
-        grouped(&Following, &mut [None; 15], apart)?,
+        grouped(rt.alloc(), &Following, &mut [None; 15], apart)?,
         (Ok((3, 2)), written(&[&[0, 1, 2], &[3, 4, 4]]))
     );
     Ok(())
@@ -165,7 +169,7 @@ fn three_that_rotate_stay_three_groups(rt: HostRuntime) -> Result<(), Fail> {
         steps: 1,
     };
     assert_eq!(rt;
-        grouped(&Following, &mut [None; 6], rotating)?,
+        grouped(rt.alloc(), &Following, &mut [None; 6], rotating)?,
         (Ok((3, 3)), written(&[&[0, 1], &[1, 2], &[2, 0]]))
     );
     Ok(())
@@ -192,7 +196,7 @@ fn one_steps_aside_and_returns(rt: HostRuntime) -> Result<(), Fail> {
         steps: 2,
     };
     assert_eq!(rt;
-        grouped(&Following, &mut [None; 48], in_the_way)?,
+        grouped(rt.alloc(), &Following, &mut [None; 48], in_the_way)?,
         (Ok((4, 1)), written(&[&[1, 3, 1], &[0, 1, 2]]))
     );
     Ok(())
@@ -201,7 +205,7 @@ fn one_steps_aside_and_returns(rt: HostRuntime) -> Result<(), Fail> {
 #[test]
 fn two_change_places_as_one_group(rt: HostRuntime) -> Result<(), Fail> {
     assert_eq!(rt;
-        grouped(&Following, &mut [None; 125], CHANGE)?,
+        grouped(rt.alloc(), &Following, &mut [None; 125], CHANGE)?,
         (Ok((6, 1)), written(&[&[0, 1, 4, 3, 3], &[3, 2, 1, 0, 0]]))
     );
     Ok(())
@@ -211,8 +215,14 @@ fn two_change_places_as_one_group(rt: HostRuntime) -> Result<(), Fail> {
 #[test]
 fn too_few_cells_for_both(rt: HostRuntime) -> Result<(), Fail> {
     let beyond = (Err(Unplanned::BeyondReach), BLANK);
-    assert_eq!(rt; grouped(&Following, &mut [None; 124], CHANGE)?, beyond);
-    assert_eq!(rt; grouped(&Following, &mut [None; 25], CHANGE)?, beyond);
+    assert_eq!(rt;
+        grouped(rt.alloc(), &Following, &mut [None; 124], CHANGE)?,
+        beyond
+    );
+    assert_eq!(rt;
+        grouped(rt.alloc(), &Following, &mut [None; 25], CHANGE)?,
+        beyond
+    );
     Ok(())
 }
 
@@ -220,12 +230,12 @@ fn too_few_cells_for_both(rt: HostRuntime) -> Result<(), Fail> {
 #[test]
 fn two_change_places_with_clear_sections(rt: HostRuntime) -> Result<(), Fail> {
     assert_eq!(rt;
-        grouped(&ClearSection, &mut [None; 125], CHANGE)?,
+        grouped(rt.alloc(), &ClearSection, &mut [None; 125], CHANGE)?,
         (Ok((7, 1)), written(&[&[0, 1, 4, 3, 3], &[3, 2, 2, 1, 0]]))
     );
     let sooner = Case { steps: 3, ..CHANGE };
     assert_eq!(rt;
-        grouped(&ClearSection, &mut [None; 100], sooner)?,
+        grouped(rt.alloc(), &ClearSection, &mut [None; 100], sooner)?,
         (Err(Unplanned::NoSheet), BLANK)
     );
     Ok(())
@@ -273,9 +283,15 @@ fn changed<Q: Search<Steps>>(rt: &impl Abort, search: &mut Q) -> Result<(), Fail
 
 #[test]
 fn all_piles_of_layers_give_the_same(rt: HostRuntime) -> Result<(), Fail> {
-    changed(&rt, &mut Table)?;
-    changed(&rt, &mut Check::over(Table))?;
-    changed(&rt, &mut Grouping::over(Check::over(Table)))?;
-    changed(&rt, &mut Check::over(Grouping::over(Table)))?;
+    changed(&rt, &mut Table::new(rt.alloc())?)?;
+    changed(&rt, &mut Check::over(Table::new(rt.alloc())?))?;
+    changed(
+        &rt,
+        &mut Grouping::over(Check::over(Table::new(rt.alloc())?)),
+    )?;
+    changed(
+        &rt,
+        &mut Check::over(Grouping::over(Table::new(rt.alloc())?)),
+    )?;
     changed(&rt, &mut Grouping::over(Walk::new(2)?))
 }

@@ -60,7 +60,8 @@ fn work<S: InWords + Copy>(
     match throat() {
         Ok(layout) => {
             println!(rt; "{title}")?;
-            let planner = Planner::new(layout, Following, scale, Check::over(Table));
+            let table = Table::new(rt.alloc())?;
+            let planner = Planner::new(layout, Following, scale, Check::over(table));
             let mut office = Office {
                 rt,
                 scale,

@@ -11,6 +11,6 @@ mod shift;
 pub struct Office<'a, S, C> {
     pub rt: &'a HostRuntime,
     pub scale: S,
-    pub planner: Planner<Following, S, Check<Table>>,
+    pub planner: Planner<Following, S, Check<Table<C>>>,
     pub cells: &'a mut [Option<C>],
 }

@@ -137,7 +137,6 @@ impl Calls {
     pub fn list_next(&mut self, dice: &mut Dice, alloc: Global) -> anyhow::Result<()> {
         let most = 1 + usize::from(dice.below(3));
         let walk = || Walk::new(most).map_err(declined);
-        let table = (Table, Below::Table);
         match dice.below(4) {
             0 => self.list_under(
                 dice,
@@ -150,16 +149,22 @@ impl Calls {
                 dice,
                 alloc,
                 (ClearSection, Steps),
-                (Check::over(Table), Below::CheckOverTable),
-                (Check::over(Table), Below::CheckOverTable),
+                (Check::over(Table::new(alloc)?), Below::CheckOverTable),
+                (Check::over(Table::new(alloc)?), Below::CheckOverTable),
             ),
-            2 => self.list_under(dice, alloc, (Following, StepsThenPoints), table, table),
+            2 => self.list_under(
+                dice,
+                alloc,
+                (Following, StepsThenPoints),
+                (Table::new(alloc)?, Below::Table),
+                (Table::new(alloc)?, Below::Table),
+            ),
             _ => self.list_under(
                 dice,
                 alloc,
                 (ClearSection, StepsThenPoints),
-                (Check::over(Table), Below::CheckOverTable),
-                (Check::over(Table), Below::CheckOverTable),
+                (Check::over(Table::new(alloc)?), Below::CheckOverTable),
+                (Check::over(Table::new(alloc)?), Below::CheckOverTable),
             ),
         }
     }

@@ -1,8 +1,9 @@
 use crate::known::{Known, alone, how_many};
 use crate::problem::{Best, Marks};
+use crate::questions::declined;
 use search::answer::Unplanned;
+use std::alloc::Global;
 use table::table::Table;
-use track::refusal::Refusal;
 use walk::walk::Walk;
 
 pub mod course;
@@ -17,7 +18,7 @@ pub trait Oracle {
 
 // An oracle of a search of single groups, with that search.
 pub trait Base<Q>: Oracle {
-    fn make(&self) -> Result<Q, Refusal>;
+    fn make(&self, alloc: Global) -> anyhow::Result<Q>;
 }
 
 // The best sheet of a group that is taken.
@@ -44,8 +45,9 @@ impl Oracle for OfWalk {
 }
 
 impl Base<Walk> for OfWalk {
-    fn make(&self) -> Result<Walk, Refusal> {
-        Walk::new(self.most)
+    // it asks for no memory
+    fn make(&self, _alloc: Global) -> anyhow::Result<Walk> {
+        Walk::new(self.most).map_err(declined)
     }
 }
 
@@ -74,9 +76,9 @@ impl Oracle for OfTable {
     }
 }
 
-impl Base<Table> for OfTable {
-    fn make(&self) -> Result<Table, Refusal> {
-        Ok(Table)
+impl<C: Copy> Base<Table<C>> for OfTable {
+    fn make(&self, alloc: Global) -> anyhow::Result<Table<C>> {
+        Ok(Table::new(alloc)?)
     }
 }
 

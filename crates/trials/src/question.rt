@@ -11,7 +11,7 @@ use search::search::Search;
 use sheets::asked::Asked;
 use sheets::sheet::Sheet;
 use single_check::check::Check;
-use track::refusal::Refusal;
+use std::alloc::Global;
 
 // A sheet with a number in each place that no section has.
 pub const BEFORE: Sheet = Sheet {
@@ -125,23 +125,24 @@ impl<R: Rule, S: Counted> Question<'_, '_, R, S> {
     pub fn ask_piles<Q: Search<S> + Drop, O: Base<Q> + Copy>(
         &self,
         base: O,
+        alloc: Global,
         cells: &mut [Option<S::Cost>],
         tallies: &mut [Tally; 7],
-    ) -> Result<(), Refusal> {
+    ) -> anyhow::Result<()> {
         let check = OfCheck(base);
         let groups = OfGrouping(base);
-        self.ask(&mut base.make()?, base, cells, &mut tallies[0]);
-        let mut pile = Check::over(base.make()?);
+        self.ask(&mut base.make(alloc)?, base, cells, &mut tallies[0]);
+        let mut pile = Check::over(base.make(alloc)?);
         self.ask(&mut pile, check, cells, &mut tallies[1]);
-        let mut pile = Check::over(Check::over(base.make()?));
+        let mut pile = Check::over(Check::over(base.make(alloc)?));
         self.ask(&mut pile, OfCheck(check), cells, &mut tallies[2]);
-        let mut pile = Check::over(Grouping::over(base.make()?));
+        let mut pile = Check::over(Grouping::over(base.make(alloc)?));
         self.ask(&mut pile, OfCheck(groups), cells, &mut tallies[3]);
-        let mut pile = Grouping::over(base.make()?);
+        let mut pile = Grouping::over(base.make(alloc)?);
         self.plan(&mut pile, groups, cells, &mut tallies[4]);
-        let mut pile = Grouping::over(Check::over(base.make()?));
+        let mut pile = Grouping::over(Check::over(base.make(alloc)?));
         self.plan(&mut pile, OfGrouping(check), cells, &mut tallies[5]);
-        let mut pile = Grouping::over(Grouping::over(base.make()?));
+        let mut pile = Grouping::over(Grouping::over(base.make(alloc)?));
         self.plan(&mut pile, OfGrouping(groups), cells, &mut tallies[6]);
         Ok(())
     }

@@ -16,6 +16,7 @@ use scales::steps_then_points::StepsThenPoints;
 use sheets::asked::Asked;
 use sheets::pose::ask;
 use std::alloc::Global;
+use table::table::Table;
 use track::refusal::Refusal;
 
 mod tell;
@@ -120,8 +121,7 @@ impl Questions {
             known,
             group: picked.group,
         };
-        self.ask_both(&question, picked, cells.as_mut_slice())
-            .map_err(declined)
+        self.ask_both(&question, picked, alloc, cells.as_mut_slice())
     }
 
     // Asks the piles over both searches.
@@ -129,14 +129,15 @@ impl Questions {
         &mut self,
         question: &Question<R, S>,
         picked: Picked,
+        alloc: Global,
         cells: &mut [Option<S::Cost>],
-    ) -> Result<(), Refusal> {
+    ) -> anyhow::Result<()> {
         let walk = OfWalk { most: picked.most };
         let table = OfTable {
             cells: picked.cells,
         };
-        question.ask_piles(walk, cells, &mut self.walk)?;
-        question.ask_piles(table, cells, &mut self.table)
+        question.ask_piles(walk, alloc, cells, &mut self.walk)?;
+        question.ask_piles::<Table<S::Cost>, OfTable>(table, alloc, cells, &mut self.table)
     }
 
     // Counts a question by its kind.

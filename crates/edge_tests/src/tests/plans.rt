@@ -92,7 +92,7 @@ fn declines<R: Rule, Q: Search<Steps>>(
 #[test]
 fn the_cells_of_two_that_change_places(rt: HostRuntime) -> Result<(), Fail> {
     let both = [SEVEN, NINE];
-    let mut planner = planner_of(5, &both, Following, Table)?;
+    let mut planner = planner_of(5, &both, Following, Table::new(rt.alloc())?)?;
     declines(
         &rt,
         &mut planner,
@@ -118,7 +118,7 @@ fn the_cells_of_two_that_change_places(rt: HostRuntime) -> Result<(), Fail> {
 #[test]
 fn steps_and_cells(rt: HostRuntime) -> Result<(), Fail> {
     let both = [SEVEN, NINE];
-    let mut planner = planner_of(5, &both, Following, Table)?;
+    let mut planner = planner_of(5, &both, Following, Table::new(rt.alloc())?)?;
     let cases = [
         (0, 125, 21),
         (1, 10, 25),
@@ -135,7 +135,7 @@ fn steps_and_cells(rt: HostRuntime) -> Result<(), Fail> {
     ];
     declines(&rt, &mut planner, &both, &cases);
     // 21 before 22, and 22 before 23
-    let mut empty = planner_of(5, &[], Following, Table)?;
+    let mut empty = planner_of(5, &[], Following, Table::new(rt.alloc())?)?;
     declines(
         &rt,
         &mut empty,
@@ -156,7 +156,7 @@ fn steps_and_cells(rt: HostRuntime) -> Result<(), Fail> {
 fn beyond_reach_or_none(rt: HostRuntime) -> Result<(), Fail> {
     // each alone has a sheet, both have none
     let both = [SEVEN, NINE];
-    let mut planner = planner_of(5, &both, ClearSection, Table)?;
+    let mut planner = planner_of(5, &both, ClearSection, Table::new(rt.alloc())?)?;
     declines(
         &rt,
         &mut planner,
@@ -165,7 +165,7 @@ fn beyond_reach_or_none(rt: HostRuntime) -> Result<(), Fail> {
     );
     // the last one alone has none, and is asked for before both others are joined
     let three = [SEVEN, NINE, STUCK];
-    let mut planner = planner_of(6, &three, Following, Table)?;
+    let mut planner = planner_of(6, &three, Following, Table::new(rt.alloc())?)?;
     declines(&rt, &mut planner, &three, &[(4, 30, 25), (4, 29, 23)]);
     // the walk uses no cell, but the plan asks for them
     let mut planner = planner_of(5, &both, Following, Walk::new(1)?)?;
