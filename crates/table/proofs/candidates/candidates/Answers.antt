@@ -28,7 +28,6 @@ returns c =
     let e : c.extend-2.new.self ≡ insert c.neighbours-neighbours.result.now c.partition_point.result c.args.a =
     rw (c.extend-2.ensures.the_items_stand_last, c.push.ensures.the_item_stands_last, c.extend.ensures.the_items_stand_last, c.new-tries.ensures.no_item_yet, c.split_at.ensures.front, c.split_at.ensures.back)
     (append_snoc (take c.partition_point.result c.neighbours-neighbours.result.now) c.args.a (drop c.partition_point.result c.neighbours-neighbours.result.now)) in
-    record {
-      just_the_sections_in_reach_in_rising_order = subst (Candidates (sections_of c.args.layout.now) (reached c.args.layout.now c.args.a)) (sym e)
-          (candidates_all _ _ _ N c.partition_point.result c.partition_point.ensures.bound (λ i h. grind (arith, nat_tests, P.0 i 0 (omega arith) h)) (λ i h k. grind (arith, nat_tests, P.1 i 0 h k)) c.requires);
-    }
+    let all = candidates_all _ _ _ N c.partition_point.result c.partition_point.ensures.bound (λ i h. grind (arith, nat_tests, P.0 i 0 (omega arith) h)) (λ i h k. grind (arith, nat_tests, P.1 i 0 h k)) c.requires in
+    let here = subst (Candidates (sections_of c.args.layout.now) (reached c.args.layout.now c.args.a)) (sym e) all in
+    record { just_the_sections_in_reach_in_rising_order = search (rules, here) }
