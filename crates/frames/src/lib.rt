@@ -8,5 +8,6 @@ pub mod frame;
 mod kind;
 mod line;
 pub mod part;
+pub mod plan;
 pub mod print;
 pub mod read;

@@ -1,13 +1,12 @@
 ghost use Rattle.std.specs.Prelude.{◌≡◌, ◌+◌, ◌*◌, ◌≤◌, ◌∷◌, ◌++◌, length, take};
 ghost use Rattle.std.specs.List.{AllByRecursion};
-ghost use Rattle.roster.specs.Model.{rows_of};
 ghost use Rattle.scales.specs.Bytes.{high_first};
 ghost use Rattle.frames.specs.Text.{text, written, printing, printed, ReadsBack, EachReadsBack, RoundTrip};
 ghost use Rattle.frames.specs.Cuts.{TextIntoItsLines};
-ghost use Rattle.frames.specs.Replies.{refusal_lines, total_bytes, train_lines, plan_lines};
+ghost use Rattle.frames.specs.Replies.{refusal_lines, total_bytes, train_lines, lines_of_plan};
 
 use crate::line::write_line;
-use roster::roster::Roster;
+use crate::plan::Plan;
 use scales::printed::PrintedScale;
 use sheets::sheet::Sheet;
 use track::refusal::Refusal;
@@ -33,11 +32,11 @@ fn train_bytes(number: u16, sections: &[u8; 17]) -> [u8; 20]
 
 // The bytes of the line of the total, from the bytes of the cost. The array is as long as the longest such line:
 // printing works in fixed memory. The line is its front, two bytes more than the cost has.
-fn total_bytes(cost: &[u8], groups: u8) -> [u8; 6]
-    requires { length cost.now ≤ 4 }
+fn total_bytes(cost: &[u8], groups: u8) -> [u8; 21]
+    requires { length cost.now ≤ 19 }
     ensures the_cost_and_the_groups { take (length cost.now + 2) result ≡ total_bytes cost.now groups }
 {
-    let mut bytes = [0; 6];
+    let mut bytes = [0; 21];
     bytes[0] = TOTAL;
     bytes[1..1 + cost.len()].copy_from_slice(cost);
     bytes[1 + cost.len()] = groups;
@@ -45,15 +44,17 @@ fn total_bytes(cost: &[u8], groups: u8) -> [u8; 6]
 }
 
 // Writes a line for each train, from the start of the writing place.
-fn write_trains(roster: &Roster, sheet: &Sheet, steps: usize, out: &mut [u8])
+fn write_trains(numbers: &[u16], sheet: &Sheet, steps: usize, out: &mut [u8])
+    requires at_most_eight { length numbers.now ≤ 8 }
     requires steps_bound { steps ≤ 16 }
-    requires steps_in_bounds { rows_of roster.now * (3 * (4 + steps)) ≤ length out.old }
-    ensures their_lines_are_written { out.new ≡ written out.old 0 (text (train_lines roster.now sheet.now steps (rows_of roster.now))) }
-    ensures each_can_be_read_again { AllByRecursion ReadsBack (train_lines roster.now sheet.now steps (rows_of roster.now)) }
+    requires steps_in_bounds { length numbers.now * (3 * (4 + steps)) ≤ length out.old }
+    ensures their_lines_are_written { out.new ≡ written out.old 0
+        (text (train_lines numbers.now sheet.now steps (length numbers.now))) }
+    ensures each_can_be_read_again { AllByRecursion ReadsBack (train_lines numbers.now sheet.now steps (length numbers.now)) }
 {
     // the place is counted by the row: after a loop over `chunks_exact_mut` a proof does not know what was written
-    for (row, train) in roster.trains().iter().enumerate() {
-        let bytes = train_bytes(train.number, &sheet.rows[row]);
+    for (row, number) in numbers.iter().enumerate() {
+        let bytes = train_bytes(*number, &sheet.rows[row]);
         write_line(&bytes[..4 + steps], &mut out[row * (3 * (4 + steps))..]);
     }
 }
@@ -72,34 +73,31 @@ pub fn print_refusal(refusal: &Refusal, out: &mut [u8]) -> Result<usize, Refusal
     Ok(6)
 }
 
-// Prints a plan: where each train stands at times 0 to `steps` (at most 16), the cost, and how many groups there are.
-// The arguments stay apart: no other function takes these together. `write_trains` takes four of them,
-// and a struct of those would be made for its one call and taken apart in it.
+// Prints a plan: where each train stands at times 0 to the last, the cost, and how many groups there are.
+// What is printed goes by the plan and the scale alone.
 pub fn print_plan<S: PrintedScale>(
     scale: &S,
-    roster: &Roster,
-    steps: usize,
-    sheet: &Sheet,
-    cost: S::Cost,
-    groups: u8,
+    plan: &Plan<S::Cost>,
     out: &mut [u8],
 ) -> Result<usize, Refusal>
-    ensures its_length_or_30_if_it_does_not_fit { result ≡ printing out.old (text (plan_lines roster.now sheet.now steps (S.PrintedScale.shown scale.now cost) groups)) }
-    ensures just_the_text_or_nothing_is_written { out.new ≡ printed out.old (text (plan_lines roster.now sheet.now steps (S.PrintedScale.shown scale.now cost) groups)) }
-    ensures its_lines_can_be_read_again { EachReadsBack result (plan_lines roster.now sheet.now steps (S.PrintedScale.shown scale.now cost) groups) }
+    ensures its_length_or_30_if_it_does_not_fit { result ≡ printing out.old
+        (text (lines_of_plan (S.PrintedScale.shown scale.now) plan.now)) }
+    ensures just_the_text_or_nothing_is_written { out.new ≡ printed out.old
+        (text (lines_of_plan (S.PrintedScale.shown scale.now) plan.now)) }
+    ensures its_lines_can_be_read_again { EachReadsBack result (lines_of_plan (S.PrintedScale.shown scale.now) plan.now) }
     ensures a_text_is_cut_into_its_lines { TextIntoItsLines }
     ensures what_is_printed_can_be_read_again { RoundTrip }
 {
-    let last = steps.min(16);
-    let mut shown = [0; 4];
-    let width = scale.write_bytes(cost, &mut shown);
-    let front = roster.count() * (3 * (4 + last));
+    let mut shown = [0; 19];
+    let width = scale.write_bytes(plan.cost, &mut shown);
+    let numbers = plan.numbers.items();
+    let front = numbers.len() * (3 * (4 + plan.steps));
     let length = front + 3 * (width + 2);
     if out.len() < length {
         return Err(Refusal::WritingPlaceTooShort);
     }
-    write_trains(roster, sheet, last, out);
-    let bytes = total_bytes(&shown[..width], groups);
+    write_trains(numbers, &plan.sheet, plan.steps, out);
+    let bytes = total_bytes(&shown[..width], plan.groups);
     write_line(&bytes[..width + 2], &mut out[front..]);
     Ok(length)
 }

@@ -1,17 +1,25 @@
 -- Lines, one more and any number of them.
-use Rattle.std.proofs.Common.{◌≡◌, ℕ, List, [], ◌∷◌, ◌++◌, Ok, Err, Result, sym, refl, ap, ◌∙◌, subst, slice_index}
+use Rattle.std.proofs.Common.{◌≡◌, ℕ, List, [], ◌∷◌, ◌++◌, Some, None, Option, Ok, Err, Result, sym, refl, ap, ◌∙◌, subst, slice_index}
+use Rattle.track.specs.Layouts.{sections_of}
+use Rattle.track.specs.Model.{Model}
 use Rattle.track.specs.Refusals.{number_of}
 use Rattle.track.specs.declared.refusal.Refusal.{Refusal}
+use Rattle.roster.specs.Book.{Book, book_of}
 use Rattle.sheets.specs.declared.sheet.Sheet.{Sheet}
 use Rattle.frames.specs.Frames.{Told, read_as, KindThenFields}
+use Rattle.frames.specs.Replies.{numbers_of}
 use Rattle.planner.specs.Promise.{Reply, declined}
 use Rattle.planner.specs.History.{Meaning}
 use Rattle.machine.specs.Asked.{asked_by, field}
-use Rattle.machine.specs.Progress.{Progress, after_line, after_read, beginning, progress_from, progress_of}
-use Rattle.machine.specs.Phases.{StandsAt, NamesSteps, NamesStepsOf, DeclinedAsRead}
+use Rattle.machine.specs.Progress.{Progress, drawing, planning, after_line, after_read, beginning, progress_from, progress_of}
+use Rattle.machine.specs.Phases.{StandsAt, numbers_in, steps_asked, reply_of, TellsPlan, DeclinedAsRead}
+use Rattle.machine.specs.Printing.{numbers_at, PrintsByTheLines}
 use Rattle.machine.specs.Lines.{LineEvent, line_event, lines_of, handed_in, TurnOwes, ReadKept, LineKept, AllLinesKept, LineStep, LineHistory, LineRun, EveryRunOfLinesKeepsAllReplies}
 use Rattle.machine.specs.declared.machine.Machine.{Machine}
+use Rattle.machine.specs.declared.phase.Phase.{Phase}
+use Rattle.machine.specs.declared.phase.Phase.TheVariants.{Drawing, Planning}
 use Rattle.machine.specs.declared.said.Said.{Said}
+use Rattle.machine.specs.declared.said.Said.TheVariants.{Done, Planned}
 
 -- a line that was read as a frame is none that is declined as it is read, and one that was declined is told as it is read
 pub frame_told : {C : Type 0} (line : List ℕ) (t : Told) → Ok t ≡ read_as line → (r : Result (Said C) Refusal) → DeclinedAsRead line r
@@ -71,7 +79,28 @@ module _ {R S Q C : Type 0} (k : Meaning R S Q C) (rule : R) (scale : S) (below 
   every_run made st last es r = run_kept beginning st r
 
 -- the first field of a frame is the second byte of its line
-pub steps_of_line : {C : Type 0} (line : List ℕ) (t : Told) (r : Result (Said C) Refusal) → KindThenFields line → Ok t ≡ read_as line
-    → NamesSteps (field t.1 0) r → NamesStepsOf line r
-steps_of_line line t r h e n =
-    subst (λ (bytes : List ℕ). NamesSteps (slice_index bytes 1) r) (sym (h t (sym e)).0) n
+pub told_of_line : {C : Type 0} (line : List ℕ) (t : Told) (numbers : List ℕ) (sheet : Sheet) (r : Result (Said C) Refusal) → KindThenFields line → Ok t ≡ read_as line
+    → TellsPlan numbers (field t.1 0) sheet r → TellsPlan numbers (steps_asked line) sheet r
+told_of_line line t numbers sheet r h e n =
+    subst (λ (bytes : List ℕ). TellsPlan numbers (slice_index bytes 1) sheet r) (sym (h t (sym e)).0) n
+
+-- a reply that tells the plan that was made prints what the lines say
+module _ {R S Q C : Type 0} (k : Meaning R S Q C) (rule : R) (scale : S) (below : Q) where
+  numbers_same : (s : Progress) (phase : Option (Phase R S Q)) → StandsAt k rule scale below s phase → numbers_in phase ≡ numbers_at s
+  unfolding sections_of
+  numbers_same (drawing m) (Some (Drawing d)) st = refl
+  numbers_same (drawing m) (Some (Planning p)) st = absurd st
+  numbers_same (drawing m) None st = absurd st
+  numbers_same (planning m calls) (Some (Drawing d)) st = absurd st
+  numbers_same (planning m calls) (Some (Planning p)) st =
+      ap (λ (b : Book). numbers_of b.trains) st.stands.book
+      ∙ ap (λ (d : Model). numbers_of (book_of d.sections calls).trains) st.made_of.layout
+  numbers_same (planning m calls) None st = absurd st
+
+  pub told_prints : (m : Machine R S Q) (line : List ℕ) (cells : ℕ) (old new : Sheet) (said : Result (Said C) Refusal)
+      → TellsPlan (numbers_in m.phase) (steps_asked line) new said → PrintsByTheLines k rule scale below m said (line_event line cells (reply_of said) old new)
+  told_prints m line cells old new (Err e) h s st shown = refl
+  told_prints m line cells old new (Ok Done) h s st shown = refl
+  told_prints m line cells old new (Ok (Planned p)) h s st shown =
+      let trains : p.numbers ≡ numbers_at s = h.trains ∙ numbers_same s m.phase st in
+      rw (trains, h.over, h.its_sheet) refl

@@ -1,5 +1,5 @@
 -- What the reply to a line keeps, over any list of lines.
-use Rattle.std.specs.Prelude.{◌≡◌, ℕ, List, [], ◌∷◌, Ok, Err, Result}
+use Rattle.std.specs.Prelude.{◌≡◌, ℕ, Bool, false, ◌||◌, List, [], ◌∷◌, Some, Option, Ok, Err, Result, ◌==◌}
 use Rattle.track.specs.Refusals.{number_of}
 use Rattle.track.specs.declared.refusal.Refusal.{Refusal}
 use Rattle.sheets.specs.declared.sheet.Sheet.{Sheet}
@@ -34,7 +34,7 @@ lines_of (e ∷ es) = handed_in e ∷ lines_of es
 
 module _ {R S Q C : Type 0} (k : Meaning R S Q C) (rule : R) (scale : S) (below : Q) where
   -- one frame more: whatever the lines come to that the phase stands for, the reply is kept, and the next phase stands for one frame more
-  abbrev pub TurnOwes : Phase R S Q → Asked → Reply C → (old new : Sheet) → Phase R S Q → Type 0
+  abbrev pub TurnOwes : Option (Phase R S Q) → Asked → Reply C → (old new : Sheet) → Option (Phase R S Q) → Type 0
   TurnOwes phase asked reply old new next =
       (s : Progress) → StandsAt k rule scale below s phase
       → FrameKept k rule scale below s asked reply old new × StandsAt k rule scale below (moved s asked) next
@@ -74,4 +74,18 @@ module _ {R S Q C : Type 0} (k : Meaning R S Q C) (rule : R) (scale : S) (below 
 -- a call that draws: its reply is kept, whatever the machine was made with
 abbrev pub DrawOwes : {R S Q C : Type 0} → Meaning R S Q C → Desk R S Q → Asked → Result (Unit {0}) Refusal → Desk R S Q → Type 0
 DrawOwes {R} {S} {Q} k desk asked r after_it =
-    (rule : R) (scale : S) (below : Q) (s : Sheet) → TurnOwes k rule scale below (Drawing desk) asked (says_done r) s s (Drawing after_it)
+    (rule : R) (scale : S) (below : Q) (s : Sheet) → TurnOwes k rule scale below (Some (Drawing desk)) asked (says_done r) s s (Some (Drawing after_it))
+
+-- whether the planning itself came to the refusal: beyond reach, or no lawful sheet. All others are conditions of a call
+abbrev pub by_planning : Refusal → Bool
+by_planning e = number_of e == 24 || number_of e == 25
+
+-- what a declined line leaves as it was: the sheet; and the machine and the cells, unless the planning came to the refusal
+pub record LeftBy {C M : Type 0} (e : Refusal) (was now : M) (cells left : List (Option C)) (old new : Sheet) : Type 0 where
+  pub sheet : new ≡ old
+  pub machine : by_planning e ≡ false → now ≡ was
+  pub cells_too : by_planning e ≡ false → left ≡ cells
+
+abbrev pub DeclinedLeaves : {C M A : Type 0} → Result A Refusal → (was now : M) (cells left : List (Option C)) (old new : Sheet) → Type 0
+DeclinedLeaves (Ok a) was now cells left old new = Unit {0}
+DeclinedLeaves (Err e) was now cells left old new = LeftBy e was now cells left old new

@@ -1,12 +1,15 @@
 -- What the machine's phases stand for, and what the reply to a frame keeps.
-use Rattle.std.specs.Prelude.{◌≡◌, ℕ, List, Ok, Err, Result, slice_index}
+use Rattle.std.specs.Prelude.{◌≡◌, ℕ, List, [], Some, None, Option, Ok, Err, Result, slice_index}
 use Rattle.track.specs.Model.{Model, drawn, laid, sections_declined, link_declined, foul_declined}
 use Rattle.track.specs.declared.refusal.Refusal.{Refusal}
 use Rattle.track.specs.Layouts.{sections_of}
 use Rattle.roster.specs.Book.{Call, book_of}
+use Rattle.roster.specs.Model.{held}
 use Rattle.sheets.specs.declared.sheet.Sheet.{Sheet}
 use Rattle.frames.specs.Lines.{bytes_of}
 use Rattle.frames.specs.Frames.{read_as}
+use Rattle.frames.specs.Replies.{numbers_of}
+use Rattle.frames.specs.declared.plan.Plan.{Plan}
 use Rattle.planner.specs.Promise.{Reply, accepted, declined, planned, unless_declined, Kept}
 use Rattle.planner.specs.History.{Meaning, setting_of, Stands, says}
 use Rattle.planner.specs.declared.planner.Planner.{Planner}
@@ -20,20 +23,38 @@ use Rattle.machine.specs.declared.said.Said.TheVariants.{Done, Planned}
 
 abbrev pub said : {C : Type 0} → Said C → Reply C
 said Done = accepted
-said (Planned cost groups steps) = planned cost groups
+said (Planned p) = planned p.cost p.groups
 
 abbrev pub reply_of : {C : Type 0} → Result (Said C) Refusal → Reply C
 reply_of r = says said r
 
--- a reply that tells a plan names these steps
-abbrev pub NamesSteps : {C : Type 0} → (steps : ℕ) → Result (Said C) Refusal → Type 0
-NamesSteps steps (Ok Done) = Unit {0}
-NamesSteps steps (Ok (Planned cost groups h)) = h ≡ steps
-NamesSteps steps (Err e) = Unit {0}
+-- what is printed of a plan is of trains with these numbers, over so many steps, with this sheet
+pub record PlanOf {C : Type 0} (numbers : List ℕ) (steps : ℕ) (sheet : Sheet) (p : Plan C) : Type 0 where
+  pub trains : p.numbers ≡ numbers
+  pub over : p.steps ≡ steps
+  pub its_sheet : p.sheet ≡ sheet
 
--- a reply that tells a plan names the steps that the line asks for
-abbrev pub NamesStepsOf : {C : Type 0} → (line : List ℕ) → Result (Said C) Refusal → Type 0
-NamesStepsOf line r = NamesSteps (slice_index (bytes_of line) 1) r
+-- so it is of the plan that a reply tells, if it tells one
+abbrev pub TellsPlan : {C : Type 0} → (numbers : List ℕ) (steps : ℕ) → Sheet → Result (Said C) Refusal → Type 0
+TellsPlan numbers steps sheet (Ok Done) = Unit {0}
+TellsPlan numbers steps sheet (Ok (Planned p)) = PlanOf numbers steps sheet p
+TellsPlan numbers steps sheet (Err e) = Unit {0}
+
+-- the steps that a line asks for, if it asks for a plan
+abbrev pub steps_asked : (line : List ℕ) → ℕ
+steps_asked line = slice_index (bytes_of line) 1
+
+-- the numbers of the trains that are entered: none before the finish
+abbrev pub numbers_in : {R S Q : Type 0} → Option (Phase R S Q) → List ℕ
+numbers_in (Some (Drawing d)) = []
+numbers_in (Some (Planning p)) = numbers_of (held p.roster)
+numbers_in None = []
+
+-- the scale that the plans are made under
+abbrev pub scale_in : {R S Q : Type 0} → Option (Phase R S Q) → Option S
+scale_in (Some (Drawing d)) = Some d.scale
+scale_in (Some (Planning p)) = Some p.scale
+scale_in None = None
 
 -- a line that is no frame is declined as it is read: with the place of its fault, where it is not pairs of digits
 abbrev pub DeclinedAsRead : {C : Type 0} → (line : List ℕ) → Result (Said C) Refusal → Type 0
@@ -59,12 +80,14 @@ module _ {R S Q C : Type 0} (k : Meaning R S Q C) (rule : R) (scale : S) (below 
     pub made_of : MadeOf m made
     pub stands : Stands k made calls p
 
-  -- the phase is what the lines come to
-  abbrev pub StandsAt : Progress → Phase R S Q → Type 0
-  StandsAt (drawing m) (Drawing d) = StandsDrawing m d
-  StandsAt (drawing m) (Planning p) = ⊥
-  StandsAt (planning m calls) (Drawing d) = ⊥
-  StandsAt (planning m calls) (Planning p) = StandsPlanning m calls p
+  -- the phase is there, and is what the lines come to
+  abbrev pub StandsAt : Progress → Option (Phase R S Q) → Type 0
+  StandsAt (drawing m) (Some (Drawing d)) = StandsDrawing m d
+  StandsAt (drawing m) (Some (Planning p)) = ⊥
+  StandsAt (drawing m) None = ⊥
+  StandsAt (planning m calls) (Some (Drawing d)) = ⊥
+  StandsAt (planning m calls) (Some (Planning p)) = StandsPlanning m calls p
+  StandsAt (planning m calls) None = ⊥
 
   -- the reply of the planner, by the planner's promise
   pub record CallKept (m : Model) (calls : List Call) (c : Call) (reply : Reply C) (old new : Sheet) : Type 0 where

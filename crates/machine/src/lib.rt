@@ -5,4 +5,5 @@ pub mod desk;
 pub mod intake;
 pub mod machine;
 pub mod phase;
+mod planning;
 pub mod said;

@@ -1,8 +1,6 @@
 use crate::desk::Desk;
 use planner::planner::Planner;
 
-mod turn;
-
 // Before the finish a throat is drawn, after it trains are planned.
 #[derive(Drop)]
 pub enum Phase<R, S, Q> {

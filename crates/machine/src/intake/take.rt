@@ -1,56 +1,66 @@
-ghost use Rattle.std.specs.Prelude.{◌≤◌, ℕ, List, IfOk, IsOk, length};
-ghost use Rattle.planner.specs.History.{meaning};
-ghost use Rattle.machine.specs.Lines.{LineEvent};
-ghost use Rattle.machine.specs.Inputs.{InputHistory, ByteTaken, InputEnded};
-
 use crate::intake::Intake;
-use crate::machine::Machine;
-use crate::machine::print::LONGEST;
+use crate::said::Said;
 use rules::rule::Rule;
-use scales::printed::PrintedScale;
+use scales::scale::Scale;
 use search::search::Search;
 use sheets::sheet::Sheet;
 use track::refusal::Refusal;
 
-impl<R: Rule, S: PrintedScale, Q: Search<S>> Intake<R, S, Q> {
-    // Takes the next byte. Where it ends a line, the line is done, and its reply is printed: how many bytes are written tells the result.
+impl<R: Rule, S: Scale, Q: Search<S>> Intake<R, S, Q> {
+    ghost use Rattle.std.specs.Prelude.{◌≡◌, ◌==◌, ℕ, List, [], not, true, false, is_some, length};
+    ghost use Rattle.std.specs.Option.{ForSome};
+    ghost use Rattle.frames.specs.Cuts.{begun_of, after};
+    ghost use Rattle.frames.specs.Cutters.{cut_of};
+    ghost use Rattle.planner.specs.History.{meaning};
+    ghost use Rattle.machine.specs.Lines.{LineEvent, DeclinedLeaves};
+    ghost use Rattle.machine.specs.Inputs.{InputHistory, ByteTaken, InputEnded};
+
+    // Takes the next byte. Where it ends a line, the line is done, and this is its reply.
+    #[inline]
     pub fn byte(
-        self,
+        &mut self,
         byte: u8,
         cells: &mut [Option<S::Cost>],
         sheet: &mut Sheet,
-        out: &mut [u8],
-    ) -> (Intake<R, S, Q>, Result<usize, Refusal>)
-        ensures a_line_is_done_and_printed_as_soon_as_it_is_ended { (rule : R) (scale : S) (below : Q) (xs : List ℕ) (es : List (LineEvent S.Cost)) → InputHistory (meaning R.Rule.conflicts S.Scale.measure Q.Search.takes) rule scale below xs es self → ByteTaken (meaning R.Rule.conflicts S.Scale.measure Q.Search.takes) rule scale below S.PrintedScale.shown xs es byte (length cells.old) sheet.old sheet.new out.old out.new result.1 result.0 }
-        ensures no_more_than_there_is_room_for { IfOk result.1 (λ n. n ≤ length out.old) }
-        ensures the_longest_place_is_long_enough { LONGEST ≤ length out.old → IsOk result.1 }
+    ) -> Option<Result<Said<S::Cost>, Refusal>>
+        ensures a_line_is_done_and_answered_as_soon_as_it_is_ended { let k = meaning R.Rule.conflicts S.Scale.measure Q.Search.takes in
+            (rule : R) (scale : S) (below : Q) (xs : List ℕ) (es : List (LineEvent S.Cost))
+            → InputHistory k rule scale below xs es self.old
+            → ByteTaken k rule scale below xs es byte (length cells.old) sheet.old sheet.new result self.new }
+        ensures a_reply_is_told_just_where_a_line_is_ended { is_some result ≡ (byte == 10) }
+        ensures the_cutter_takes_the_byte { cut_of self.new.cutter ≡ after (cut_of self.old.cutter) byte }
+        ensures a_byte_that_ends_no_line_leaves_machine_cells_and_sheet { (byte == 10) ≡ false
+            → (self.new.machine ≡ self.old.machine) × (cells.new ≡ cells.old) × (sheet.new ≡ sheet.old) }
+        ensures a_declined_line_changes_nothing { ForSome result (λ said.
+            DeclinedLeaves said self.old.machine self.new.machine cells.old cells.new sheet.old sheet.new) }
     {
-        let Intake {
-            mut cutter,
-            machine,
-        } = self;
-        if !cutter.push(byte) {
-            return (Intake { cutter, machine }, Ok(0));
+        if !self.cutter.push(byte) {
+            return None;
         }
-        let (machine, printed) = machine.answer(cutter.line(), cells, sheet, out);
-        (Intake { cutter, machine }, printed)
+        Some(self.machine.line(self.cutter.line(), cells, sheet))
     }
 
-    // Ends the input. A line that has begun is its last, and is done and printed as the others were.
+    // Ends the input. A line that has begun is its last: it is done as if 0A had ended it, and this is its reply.
+    // No line has begun afterwards, so the intake can go on with another input, or be let go.
     pub fn end(
-        self,
+        &mut self,
         cells: &mut [Option<S::Cost>],
         sheet: &mut Sheet,
-        out: &mut [u8],
-    ) -> (Machine<R, S, Q>, Result<usize, Refusal>)
-        ensures every_line_of_the_input_is_done_and_printed { (rule : R) (scale : S) (below : Q) (xs : List ℕ) (es : List (LineEvent S.Cost)) → InputHistory (meaning R.Rule.conflicts S.Scale.measure Q.Search.takes) rule scale below xs es self → InputEnded (meaning R.Rule.conflicts S.Scale.measure Q.Search.takes) rule scale below S.PrintedScale.shown xs es (length cells.old) sheet.old sheet.new out.old out.new result.1 result.0 }
-        ensures no_more_than_there_is_room_for { IfOk result.1 (λ n. n ≤ length out.old) }
-        ensures the_longest_place_is_long_enough { LONGEST ≤ length out.old → IsOk result.1 }
+    ) -> Option<Result<Said<S::Cost>, Refusal>>
+        ensures every_line_of_the_input_is_done_and_answered { let k = meaning R.Rule.conflicts S.Scale.measure Q.Search.takes in
+            (rule : R) (scale : S) (below : Q) (xs : List ℕ) (es : List (LineEvent S.Cost))
+            → InputHistory k rule scale below xs es self.old
+            → InputEnded k rule scale below xs es (length cells.old) sheet.old sheet.new result self.new }
+        ensures no_line_has_begun_afterwards { begun_of (cut_of self.new.cutter) ≡ [] }
+        ensures a_reply_is_told_just_where_a_line_had_begun { is_some result ≡ not (length (begun_of (cut_of self.old.cutter)) == 0) }
+        ensures nothing_changes_where_none_had_begun { (length (begun_of (cut_of self.old.cutter)) == 0) ≡ true
+            → (self.new ≡ self.old) × (cells.new ≡ cells.old) × (sheet.new ≡ sheet.old) }
+        ensures a_declined_line_changes_nothing { ForSome result (λ said.
+            DeclinedLeaves said self.old.machine self.new.machine cells.old cells.new sheet.old sheet.new) }
     {
-        let Intake { cutter, machine } = self;
-        if !cutter.has_rest() {
-            return (machine, Ok(0));
+        if !self.cutter.has_rest() {
+            return None;
         }
-        machine.answer(cutter.line(), cells, sheet, out)
+        self.byte(b'\n', cells, sheet)
     }
 }

@@ -1,8 +1,3 @@
-ghost use Rattle.std.specs.Prelude.{List, [], ◌∷◌, ◌++◌, length};
-ghost use Rattle.planner.specs.History.{meaning};
-ghost use Rattle.machine.specs.Phases.{reply_of, NamesStepsOf, DeclinedAsRead};
-ghost use Rattle.machine.specs.Lines.{LineEvent, line_event, LineStep, LineHistory};
-
 use crate::machine::Machine;
 use crate::said::Said;
 use frames::read::read;
@@ -13,25 +8,36 @@ use sheets::sheet::Sheet;
 use track::refusal::Refusal;
 
 impl<R: Rule, S: Scale, Q: Search<S>> Machine<R, S, Q> {
+    ghost use Rattle.std.specs.Prelude.{List, [], ◌∷◌, ◌++◌, length};
+    ghost use Rattle.planner.specs.History.{meaning};
+    ghost use Rattle.machine.specs.Phases.{reply_of, numbers_in, steps_asked, TellsPlan, DeclinedAsRead};
+    ghost use Rattle.machine.specs.Lines.{LineEvent, line_event, LineStep, LineHistory, DeclinedLeaves};
+    ghost use Rattle.machine.specs.Printing.{PrintsByTheLines};
+
     // Does the frame of a line, given without its ending 0A, or says why it is declined.
-    // It takes the machine and gives it back, since the finish uses the drawing up.
     pub fn line(
-        self,
+        &mut self,
         line: &[u8],
         cells: &mut [Option<S::Cost>],
         sheet: &mut Sheet,
-    ) -> (Machine<R, S, Q>, Result<Said<S::Cost>, Refusal>)
-        ensures the_reply_is_kept_after_any_lines { (rule : R) (scale : S) (below : Q) → LineStep (meaning R.Rule.conflicts S.Scale.measure Q.Search.takes) rule scale below self (line_event line.now (length cells.old) (reply_of result.1) sheet.old sheet.new) result.0 }
-        ensures every_reply_is_kept_over_any_history_of_lines { (rule : R) (scale : S) (below : Q) (es : List (LineEvent S.Cost)) → LineHistory (meaning R.Rule.conflicts S.Scale.measure Q.Search.takes) rule scale below es self → LineHistory (meaning R.Rule.conflicts S.Scale.measure Q.Search.takes) rule scale below (es ++ (line_event line.now (length cells.old) (reply_of result.1) sheet.old sheet.new ∷ [])) result.0 }
-        ensures a_plan_is_told_with_the_steps_asked_for { NamesStepsOf line.now result.1 }
-        ensures a_line_that_is_no_frame_is_declined_as_it_is_read { DeclinedAsRead line.now result.1 }
+    ) -> Result<Said<S::Cost>, Refusal>
+        ensures after_any_lines_the_rules_are_followed_and_a_sheet_is_lawful_cheapest_and_the_first_of_equals { let k = meaning R.Rule.conflicts S.Scale.measure Q.Search.takes in
+            let done = line_event line.now (length cells.old) (reply_of result) sheet.old sheet.new in
+            (rule : R) (scale : S) (below : Q) → LineStep k rule scale below self.old done self.new }
+        ensures a_history_of_lines_goes_on_with_the_line { let k = meaning R.Rule.conflicts S.Scale.measure Q.Search.takes in
+            let done = line_event line.now (length cells.old) (reply_of result) sheet.old sheet.new in
+            (rule : R) (scale : S) (below : Q) (es : List (LineEvent S.Cost)) → LineHistory k rule scale below es self.old
+            → LineHistory k rule scale below (es ++ (done ∷ [])) self.new }
+        ensures a_plan_is_told_with_the_trains_the_steps_asked_for_and_the_sheet { TellsPlan (numbers_in self.old.phase) (steps_asked line.now) sheet.new result }
+        ensures after_any_lines_the_reply_prints_what_they_come_to { let k = meaning R.Rule.conflicts S.Scale.measure Q.Search.takes in
+            let done = line_event line.now (length cells.old) (reply_of result) sheet.old sheet.new in
+            (rule : R) (scale : S) (below : Q) → PrintsByTheLines k rule scale below self.old result done }
+        ensures a_line_that_is_no_frame_is_declined_as_it_is_read { DeclinedAsRead line.now result }
+        ensures a_declined_line_changes_nothing { DeclinedLeaves result self.old self.new cells.old cells.new sheet.old sheet.new }
     {
         match read(line) {
-            Ok(frame) => {
-                let (phase, said) = self.phase.turn(frame, cells, sheet);
-                (Machine { phase }, said)
-            }
-            Err(refusal) => (self, Err(refusal)),
+            Ok(frame) => self.turn(frame, cells, sheet),
+            Err(refusal) => Err(refusal),
         }
     }
 }

@@ -1,7 +1,3 @@
-ghost use Rattle.std.specs.Prelude.{◌≡◌, []};
-ghost use Rattle.planner.specs.History.{meaning};
-ghost use Rattle.machine.specs.Lines.{LineHistory, EveryRunOfLinesKeepsAllReplies};
-
 use crate::desk::Desk;
 use crate::machine::Machine;
 use crate::phase::Phase;
@@ -11,19 +7,23 @@ use search::search::Search;
 use track::drawing::Drawing;
 
 impl<R: Rule, S: Scale, Q: Search<S>> Machine<R, S, Q> {
+    ghost use Rattle.std.specs.Prelude.{◌≡◌, []};
+    ghost use Rattle.planner.specs.History.{meaning};
+    ghost use Rattle.machine.specs.Lines.{LineHistory, EveryRunOfLinesKeepsAllReplies};
+
     // A machine with nothing drawn. At the finish it makes its planner with this rule and scale, over this search.
     pub fn new(rule: R, scale: S, below: Q) -> Machine<R, S, Q>
-        ensures its_history_is_empty { LineHistory (meaning R.Rule.conflicts S.Scale.measure Q.Search.takes) rule scale below [] result }
-        ensures every_run_of_lines_keeps_all_replies { EveryRunOfLinesKeepsAllReplies (meaning R.Rule.conflicts S.Scale.measure Q.Search.takes) rule scale below result }
+        ensures nothing_is_drawn { LineHistory (meaning R.Rule.conflicts S.Scale.measure Q.Search.takes) rule scale below [] result }
+        ensures in_every_run_of_lines_the_rules_are_followed_and_sheets_are_lawful_cheapest_and_first { EveryRunOfLinesKeepsAllReplies (meaning R.Rule.conflicts S.Scale.measure Q.Search.takes) rule scale below result }
     {
         let drawing = Drawing::new();
         Machine {
-            phase: Phase::Drawing(Desk {
+            phase: Some(Phase::Drawing(Desk {
                 drawing,
                 rule,
                 scale,
                 below,
-            }),
+            })),
         }
     }
 }

@@ -6,4 +6,4 @@ use Rattle.frames.proofs.print.write_trains.Given as goal
 
 abbrev pub invariant-loop-row : goal.invariant-loop-row
 invariant-loop-row l =
-    (l.out ≡ written l.initial.out 0 (text (train_lines l.roster l.sheet l.steps l.row))) × AllByRecursion ReadsBack (train_lines l.roster l.sheet l.steps l.row)
+    (l.out ≡ written l.initial.out 0 (text (train_lines l.numbers l.sheet l.steps l.row))) × AllByRecursion ReadsBack (train_lines l.numbers l.sheet l.steps l.row)

@@ -10,5 +10,5 @@ returns g c =
     let p = c.new in
     let parts = p.ensures.it_has_these_parts in
     record {
-      the_reply_is_kept = λ rule scale below s. finish_turn k rule scale below c.args.self p.result s (ap laid parts.0 ∙ c.finish.ensures.the_layout_is_what_was_drawn) parts.1 parts.2 parts.3 p.ensures.its_history_is_empty.stands;
+      the_rules_are_followed = λ rule scale below s. finish_turn k rule scale below c.args.self p.result s (ap laid parts.0 ∙ c.finish.ensures.the_layout_is_what_was_drawn) parts.1 parts.2 parts.3 p.ensures.no_train_is_entered_and_nothing_is_closed.stands;
     }

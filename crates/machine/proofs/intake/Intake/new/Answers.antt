@@ -6,5 +6,5 @@ pub returns : goal.returns
 unfolding after_all given
 returns g c =
     record {
-      nothing_is_taken = record { cut = c.new-cutter.ensures.nothing_is_begun; lines = refl; history = c.new-machine.ensures.its_history_is_empty };
+      nothing_is_taken = record { cut = c.new-cutter.ensures.nothing_is_begun; lines = refl; history = c.new-machine.ensures.nothing_is_drawn };
     }
