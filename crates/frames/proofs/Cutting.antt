@@ -37,7 +37,7 @@ next_of_the_input s n byte e xs h = (
 
 -- the lines of the input
 
-clip : (n : ℕ) (xs ys : List ℕ) → take n (take n xs ++ ys) ≡ take n (xs ++ ys)
+pub clip : (n : ℕ) (xs ys : List ℕ) → take n (take n xs ++ ys) ≡ take n (xs ++ ys)
 clip zero xs ys = refl
 clip (suc n) [] ys = refl
 clip (suc n) (x ∷ xs) ys = ap (λ (zs : List ℕ). x ∷ zs) (clip n xs ys)
