@@ -9,11 +9,11 @@ pub mod make;
 // the cost, and how many groups there are. A plan stays as it was made, whatever becomes of the roster and the sheet.
 #[derive(Drop)]
 pub struct Plan<C> {
-    pub(crate) numbers: FixedList<u16, 8>,
-    pub(crate) sheet: Sheet,
-    pub(crate) steps: usize,
-    pub(crate) cost: C,
-    pub(crate) groups: u8,
+    pub numbers: FixedList<u16, 8>,
+    pub sheet: Sheet,
+    pub steps: usize,
+    pub cost: C,
+    pub groups: u8,
     ghost few_trains: { length numbers ≤ 8 },
     ghost few_steps: { steps ≤ 16 },
 }
