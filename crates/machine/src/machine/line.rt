@@ -15,6 +15,8 @@ impl<R: Rule, S: Scale, Q: Search<S>> Machine<R, S, Q> {
     ghost use Rattle.machine.specs.Printing.{PrintsByTheLines};
 
     // Does the frame of a line, given without its ending 0A, or says why it is declined.
+    // Never inlined: an intake would then set up what a line needs for each byte.
+    #[inline(never)]
     pub fn line(
         &mut self,
         line: &[u8],
