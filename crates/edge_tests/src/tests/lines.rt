@@ -1,7 +1,11 @@
+use frames::plan::Plan;
 use frames::print::{print_plan, print_refusal};
 use frames::read::read;
+use machine::intake::Intake;
+use machine::said::Said;
 use roster::roster::Roster;
 use roster::train::Train;
+use rules::following::Following;
 use scales::pair::Pair;
 use scales::printed::PrintedScale;
 use scales::steps::Steps;
@@ -9,6 +13,7 @@ use scales::steps_then_points::StepsThenPoints;
 use sheets::sheet::Sheet;
 use std::process::Abort;
 use std::test::Fail;
+use table::table::Table;
 use track::drawing::Drawing;
 use track::refusal::Refusal;
 
@@ -159,6 +164,7 @@ fn plan_needs<S: PrintedScale>(
     let mut sheet = Sheet::default();
     sheet.rows[0][..3].copy_from_slice(&[0, 1, 3]);
     sheet.rows[1][..3].copy_from_slice(&[3, 2, 0]);
+    let plan = Plan::new(&roster, 2, &sheet, cost, 1);
     let length = text.len().min(99);
     for (room, wanted, text) in [
         (length.saturating_sub(1), (30, 0), b"".as_slice()),
@@ -166,7 +172,7 @@ fn plan_needs<S: PrintedScale>(
         (length + 1, (0, length), text),
     ] {
         let mut place = [b'.'; 100];
-        let answer = print_plan(scale, &roster, 2, &sheet, cost, 1, &mut place[..room]);
+        let answer = print_plan(scale, &plan, &mut place[..room]);
         assert_eq!(rt; printed_as(answer), wanted, "{room} bytes");
         assert!(rt; holds(&place, text));
     }
@@ -191,4 +197,60 @@ fn room_for_a_plan(rt: HostRuntime) -> Result<(), Fail> {
         cost,
         b"10 00 07 00 01 03\n10 27 0F 03 02 00\n11 00 04 01 02 01\n",
     )
+}
+
+type Reply = Option<Result<Said<u16>, Refusal>>;
+
+// The reply to the last of these lines, which no 0A ends. The others have to be done.
+fn last_reply(
+    rt: &impl Abort,
+    intake: &mut Intake<Following, Steps, Table>,
+    sheet: &mut Sheet,
+    text: &[u8],
+) -> Reply {
+    for byte in text {
+        if let Some(said) = intake.byte(*byte, &mut [None; 6], sheet) {
+            assert!(rt; said.is_ok());
+        }
+    }
+    intake.end(&mut [None; 6], sheet)
+}
+
+// Two sections with a link, and the train 7 from 0 to 1.
+const ENTERED: &[u8] = b"01 02\n02 00 01 00\n04\n05 00 07 00 01\n";
+
+// A place that is too short is left as it was, and the reply is printed into a longer one, whatever was done since.
+#[test]
+fn a_reply_is_printed_again(rt: HostRuntime) -> Result<(), Fail> {
+    let mut intake = Intake::new(Following, Steps, Table);
+    let mut sheet = Sheet::default();
+    assert!(rt; last_reply(&rt, &mut intake, &mut sheet, ENTERED).is_none());
+    let said = last_reply(&rt, &mut intake, &mut sheet, b"07 02").expect(&rt, "a reply");
+    let mut place = [b'.'; 40];
+    assert_eq!(rt; printed_as(intake.print(&said, &mut place[..29])), (30, 0));
+    assert!(rt; holds(&place, b""));
+    // another train stands on the roster and the sheet when it is printed
+    let _ = last_reply(
+        &rt,
+        &mut intake,
+        &mut sheet,
+        b"06 00 07\n05 00 09 01 00\n07 02",
+    );
+    assert_eq!(rt; printed_as(intake.print(&said, &mut place)), (0, 30));
+    assert!(rt; holds(&place, b"10 00 07 00 01 01\n11 00 01 01\n"));
+    Ok(())
+}
+
+// After a withdrawal the plan is of the trains that are left.
+#[test]
+fn a_plan_after_a_withdrawal(rt: HostRuntime) -> Result<(), Fail> {
+    let mut intake = Intake::new(Following, Steps, Table);
+    let mut sheet = Sheet::default();
+    assert!(rt; last_reply(&rt, &mut intake, &mut sheet, ENTERED).is_none());
+    let text = b"05 00 09 01 00\n06 00 07\n07 01";
+    let said = last_reply(&rt, &mut intake, &mut sheet, text).expect(&rt, "a reply");
+    let mut place = [b'.'; 40];
+    assert_eq!(rt; printed_as(intake.print(&said, &mut place)), (0, 27));
+    assert!(rt; holds(&place, b"10 00 09 01 00\n11 00 01 01\n"));
+    Ok(())
 }

@@ -13,8 +13,7 @@ fn last_of(lines: &[&[u8]]) -> u8 {
     let mut sheet = Sheet::default();
     let mut number = 0;
     for line in lines {
-        let (next, said) = machine.line(line, &mut [None; 4], &mut sheet);
-        machine = next;
+        let said = machine.line(line, &mut [None; 4], &mut sheet);
         number = number_of(said.map(|_| ()));
     }
     number
