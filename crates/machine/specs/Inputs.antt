@@ -28,27 +28,34 @@ module _ {R S Q C : Type 0} (k : Meaning R S Q C) (rule : R) (scale : S) (below 
     pub history : LineHistory k rule scale below es i.machine
 
   -- one more line is done: the bytes taken are these, and the reply prints what the lines say
-  pub record OneMore (xs : List ℕ) (es : List (LineEvent C)) (line : List ℕ) (cells : ℕ) (old new : Sheet) (said : Result (Said C) Refusal) (next : Intake R S Q) : Type 0 where
+  pub record OneMore (xs : List ℕ) (es : List (LineEvent C)) (line : List ℕ) (cells : ℕ) (old new : Sheet)
+      (said : Result (Said C) Refusal) (next : Intake R S Q) : Type 0 where
     pub taken : InputHistory xs (es ++ (line_event line cells (reply_of said) old new ∷ [])) next
-    pub printed : (shown : C → List ℕ) → reply_lines shown said ≡ prints shown (progress_of (lines_of es)) (line_event line cells (reply_of said) old new)
+    pub printed : (shown : C → List ℕ)
+        → reply_lines shown said ≡ prints shown (progress_of (lines_of es)) (line_event line cells (reply_of said) old new)
 
   -- one byte more, by whether it ends a line
-  abbrev pub TakenBy : Bool → (xs : List ℕ) (es : List (LineEvent C)) (byte cells : ℕ) (old new : Sheet) → Option (Result (Said C) Refusal) → Intake R S Q → Type 0
-  TakenBy true xs es byte cells old new (Some said) next = OneMore (xs ++ (byte ∷ [])) es (cut_of next.cutter).line cells old new said next
+  abbrev pub TakenBy : Bool → (xs : List ℕ) (es : List (LineEvent C)) (byte cells : ℕ) (old new : Sheet)
+      → Option (Result (Said C) Refusal) → Intake R S Q → Type 0
+  TakenBy true xs es byte cells old new (Some said) next =
+      OneMore (xs ++ (byte ∷ [])) es (cut_of next.cutter).line cells old new said next
   TakenBy true xs es byte cells old new None next = ⊥
   TakenBy false xs es byte cells old new (Some said) next = ⊥
   TakenBy false xs es byte cells old new None next = InputHistory (xs ++ (byte ∷ [])) es next × (new ≡ old)
 
-  abbrev pub ByteTaken : (xs : List ℕ) (es : List (LineEvent C)) (byte cells : ℕ) (old new : Sheet) → Option (Result (Said C) Refusal) → Intake R S Q → Type 0
+  abbrev pub ByteTaken : (xs : List ℕ) (es : List (LineEvent C)) (byte cells : ℕ) (old new : Sheet)
+      → Option (Result (Said C) Refusal) → Intake R S Q → Type 0
   ByteTaken xs es byte cells old new told next = TakenBy (byte == 10) xs es byte cells old new told next
 
   -- the last line is done as if 0A had ended it, and with it all lines of the input are
-  pub record LastDone (xs : List ℕ) (es : List (LineEvent C)) (cells : ℕ) (old new : Sheet) (said : Result (Said C) Refusal) (next : Intake R S Q) : Type 0 where
+  pub record LastDone (xs : List ℕ) (es : List (LineEvent C)) (cells : ℕ) (old new : Sheet)
+      (said : Result (Said C) Refusal) (next : Intake R S Q) : Type 0 where
     pub line : List ℕ
     pub more : OneMore (xs ++ (10 ∷ [])) es line cells old new said next
     pub done : InputDone xs (es ++ (line_event line cells (reply_of said) old new ∷ [])) next
 
   -- the end of the input: all its lines are done before it, or all but the last
-  abbrev pub InputEnded : (xs : List ℕ) (es : List (LineEvent C)) (cells : ℕ) (old new : Sheet) → Option (Result (Said C) Refusal) → Intake R S Q → Type 0
+  abbrev pub InputEnded : (xs : List ℕ) (es : List (LineEvent C)) (cells : ℕ) (old new : Sheet)
+      → Option (Result (Said C) Refusal) → Intake R S Q → Type 0
   InputEnded xs es cells old new (Some said) next = LastDone xs es cells old new said next
   InputEnded xs es cells old new None next = InputDone xs es next × InputHistory xs es next × (new ≡ old)

@@ -34,7 +34,8 @@ lines_of (e ∷ es) = handed_in e ∷ lines_of es
 
 module _ {R S Q C : Type 0} (k : Meaning R S Q C) (rule : R) (scale : S) (below : Q) where
   -- one frame more: whatever the lines come to that the phase stands for, the reply is kept, and the next phase stands for one frame more
-  abbrev pub TurnOwes : Option (Phase R S Q) → Asked → Reply C → (old new : Sheet) → Option (Phase R S Q) → Type 0
+  abbrev pub TurnOwes : Option (Phase R S Q) → Asked → Reply C → (old new : Sheet)
+      → Option (Phase R S Q) → Type 0
   TurnOwes phase asked reply old new next =
       (s : Progress) → StandsAt k rule scale below s phase
       → FrameKept k rule scale below s asked reply old new × StandsAt k rule scale below (moved s asked) next
@@ -81,11 +82,13 @@ abbrev pub by_planning : Refusal → Bool
 by_planning e = number_of e == 24 || number_of e == 25
 
 -- what a declined line leaves as it was: the sheet; and the machine and the cells, unless the planning came to the refusal
-pub record LeftBy {C M : Type 0} (e : Refusal) (was now : M) (cells left : List (Option C)) (old new : Sheet) : Type 0 where
+pub record LeftBy {C M : Type 0} (e : Refusal)
+    (was now : M) (cells left : List (Option C)) (old new : Sheet) : Type 0 where
   pub sheet : new ≡ old
   pub machine : by_planning e ≡ false → now ≡ was
   pub cells_too : by_planning e ≡ false → left ≡ cells
 
-abbrev pub DeclinedLeaves : {C M A : Type 0} → Result A Refusal → (was now : M) (cells left : List (Option C)) (old new : Sheet) → Type 0
+abbrev pub DeclinedLeaves : {C M A : Type 0} → Result A Refusal
+    → (was now : M) (cells left : List (Option C)) (old new : Sheet) → Type 0
 DeclinedLeaves (Ok a) was now cells left old new = Unit {0}
 DeclinedLeaves (Err e) was now cells left old new = LeftBy e was now cells left old new

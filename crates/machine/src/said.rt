@@ -17,7 +17,8 @@ pub enum Said<C> {
     Planned(Plan<C>),
 }
 
-// The reply to a plan of the trains of a roster over so many steps, by the answer of the planner and the sheet that it left.
+// The reply to a plan of the trains of a roster over so many steps, by the answer of the planner and the
+// sheet that it left.
 pub(crate) fn planned<C>(
     answer: Result<(C, usize), Refusal>,
     roster: &Roster,

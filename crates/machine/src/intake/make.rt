@@ -12,7 +12,8 @@ impl<R: Rule, S: Scale, Q: Search<S>> Intake<R, S, Q> {
 
     // Nothing is taken yet. The lines will be done by a machine with this rule and scale, over this search.
     pub fn new(rule: R, scale: S, below: Q) -> Intake<R, S, Q>
-        ensures nothing_is_taken { InputHistory (meaning R.Rule.conflicts S.Scale.measure Q.Search.takes) rule scale below [] [] result }
+        ensures nothing_is_taken { InputHistory
+            (meaning R.Rule.conflicts S.Scale.measure Q.Search.takes) rule scale below [] [] result }
     {
         let cutter = Cutter::new();
         let machine = Machine::new(rule, scale, below);

@@ -23,7 +23,8 @@ impl<R: Rule, S: Scale, Q: Search<S>> Intake<R, S, Q> {
         cells: &mut [Option<S::Cost>],
         sheet: &mut Sheet,
     ) -> Option<Result<Said<S::Cost>, Refusal>>
-        ensures a_line_is_done_and_answered_as_soon_as_it_is_ended { let k = meaning R.Rule.conflicts S.Scale.measure Q.Search.takes in
+        ensures a_line_is_done_and_answered_as_soon_as_it_is_ended { let k =
+            meaning R.Rule.conflicts S.Scale.measure Q.Search.takes in
             (rule : R) (scale : S) (below : Q) (xs : List ℕ) (es : List (LineEvent S.Cost))
             → InputHistory k rule scale below xs es self.old
             → ByteTaken k rule scale below xs es byte (length cells.old) sheet.old sheet.new result self.new }
@@ -40,20 +41,24 @@ impl<R: Rule, S: Scale, Q: Search<S>> Intake<R, S, Q> {
         Some(self.machine.line(self.cutter.line(), cells, sheet))
     }
 
-    // Ends the input. A line that has begun is its last: it is done as if 0A had ended it, and this is its reply.
+    // Ends the input. A line that has begun is its last: it is done as if 0A had ended it, and this is its
+    // reply.
     // No line has begun afterwards, so the intake can go on with another input, or be let go.
     pub fn end(
         &mut self,
         cells: &mut [Option<S::Cost>],
         sheet: &mut Sheet,
     ) -> Option<Result<Said<S::Cost>, Refusal>>
-        ensures every_line_of_the_input_is_done_and_answered { let k = meaning R.Rule.conflicts S.Scale.measure Q.Search.takes in
+        ensures every_line_of_the_input_is_done_and_answered { let k =
+            meaning R.Rule.conflicts S.Scale.measure Q.Search.takes in
             (rule : R) (scale : S) (below : Q) (xs : List ℕ) (es : List (LineEvent S.Cost))
             → InputHistory k rule scale below xs es self.old
             → InputEnded k rule scale below xs es (length cells.old) sheet.old sheet.new result self.new }
         ensures no_line_has_begun_afterwards { begun_of (cut_of self.new.cutter) ≡ [] }
-        ensures a_reply_is_told_just_where_a_line_had_begun { is_some result ≡ not (length (begun_of (cut_of self.old.cutter)) == 0) }
-        ensures nothing_changes_where_none_had_begun { (length (begun_of (cut_of self.old.cutter)) == 0) ≡ true
+        ensures a_reply_is_told_just_where_a_line_had_begun { is_some
+            result ≡ not (length (begun_of (cut_of self.old.cutter)) == 0) }
+        ensures nothing_changes_where_none_had_begun { (length
+            (begun_of (cut_of self.old.cutter)) == 0) ≡ true
             → (self.new ≡ self.old) × (cells.new ≡ cells.old) × (sheet.new ≡ sheet.old) }
         ensures a_declined_line_changes_nothing { ForSome result (λ said.
             DeclinedLeaves said self.old.machine self.new.machine cells.old cells.new sheet.old sheet.new) }

@@ -23,19 +23,24 @@ impl<R: Rule, S: Scale, Q: Search<S>> Machine<R, S, Q> {
         cells: &mut [Option<S::Cost>],
         sheet: &mut Sheet,
     ) -> Result<Said<S::Cost>, Refusal>
-        ensures after_any_lines_the_rules_are_followed_and_a_sheet_is_lawful_cheapest_and_the_first_of_equals { let k = meaning R.Rule.conflicts S.Scale.measure Q.Search.takes in
+        ensures after_any_lines_the_rules_are_followed_and_a_sheet_is_lawful_cheapest_and_first { let k =
+            meaning R.Rule.conflicts S.Scale.measure Q.Search.takes in
             let done = line_event line.now (length cells.old) (reply_of result) sheet.old sheet.new in
             (rule : R) (scale : S) (below : Q) → LineStep k rule scale below self.old done self.new }
-        ensures a_history_of_lines_goes_on_with_the_line { let k = meaning R.Rule.conflicts S.Scale.measure Q.Search.takes in
+        ensures a_history_of_lines_goes_on_with_the_line { let k =
+            meaning R.Rule.conflicts S.Scale.measure Q.Search.takes in
             let done = line_event line.now (length cells.old) (reply_of result) sheet.old sheet.new in
             (rule : R) (scale : S) (below : Q) (es : List (LineEvent S.Cost)) → LineHistory k rule scale below es self.old
             → LineHistory k rule scale below (es ++ (done ∷ [])) self.new }
-        ensures a_plan_is_told_with_the_trains_the_steps_asked_for_and_the_sheet { TellsPlan (numbers_in self.old.phase) (steps_asked line.now) sheet.new result }
-        ensures after_any_lines_the_reply_prints_what_they_come_to { let k = meaning R.Rule.conflicts S.Scale.measure Q.Search.takes in
+        ensures a_plan_is_told_with_the_trains_the_steps_asked_for_and_the_sheet { TellsPlan
+            (numbers_in self.old.phase) (steps_asked line.now) sheet.new result }
+        ensures after_any_lines_the_reply_prints_what_they_come_to { let k =
+            meaning R.Rule.conflicts S.Scale.measure Q.Search.takes in
             let done = line_event line.now (length cells.old) (reply_of result) sheet.old sheet.new in
             (rule : R) (scale : S) (below : Q) → PrintsByTheLines k rule scale below self.old result done }
         ensures a_line_that_is_no_frame_is_declined_as_it_is_read { DeclinedAsRead line.now result }
-        ensures a_declined_line_changes_nothing { DeclinedLeaves result self.old self.new cells.old cells.new sheet.old sheet.new }
+        ensures a_declined_line_changes_nothing { DeclinedLeaves
+            result self.old self.new cells.old cells.new sheet.old sheet.new }
     {
         match read(line) {
             Ok(frame) => self.turn(frame, cells, sheet),

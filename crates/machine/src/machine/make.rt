@@ -13,8 +13,10 @@ impl<R: Rule, S: Scale, Q: Search<S>> Machine<R, S, Q> {
 
     // A machine with nothing drawn. At the finish it makes its planner with this rule and scale, over this search.
     pub fn new(rule: R, scale: S, below: Q) -> Machine<R, S, Q>
-        ensures nothing_is_drawn { LineHistory (meaning R.Rule.conflicts S.Scale.measure Q.Search.takes) rule scale below [] result }
-        ensures in_every_run_of_lines_the_rules_are_followed_and_sheets_are_lawful_cheapest_and_first { EveryRunOfLinesKeepsAllReplies (meaning R.Rule.conflicts S.Scale.measure Q.Search.takes) rule scale below result }
+        ensures nothing_is_drawn { LineHistory
+            (meaning R.Rule.conflicts S.Scale.measure Q.Search.takes) rule scale below [] result }
+        ensures in_every_run_the_rules_are_followed_and_each_sheet_is_lawful_cheapest_and_first { EveryRunOfLinesKeepsAllReplies
+            (meaning R.Rule.conflicts S.Scale.measure Q.Search.takes) rule scale below result }
     {
         let drawing = Drawing::new();
         Machine {

@@ -5,7 +5,8 @@ use frames::print::{print_plan, print_refusal};
 use scales::printed::PrintedScale;
 use track::refusal::Refusal;
 
-// The longest that a reply can print with costs of at most four bytes: three characters for each byte of 8 lines of 20 bytes,
+// The longest that a reply can print with costs of at most four bytes: three characters for each byte of 8
+// lines of 20 bytes,
 // one a train, and of the line of 6 for the total. A wider cost takes three more for each byte.
 pub const LONGEST: usize = 498;
 
@@ -32,7 +33,8 @@ impl<R, S: PrintedScale, Q> Machine<R, S, Q> {
     ghost use Rattle.machine.specs.Printing.{reply_lines, APlanOfEightTrainsOverSixteenStepsHas};
 
     // Prints a reply: why the line was declined, or the plan that it made; other replies print nothing.
-    // What is printed goes by the reply and the scale alone: where there was too little room, it can be printed again
+    // What is printed goes by the reply and the scale alone: where there was too little room, it can be
+    // printed again
     // into a longer place, and whatever was done since.
     pub fn print(
         &self,
@@ -46,7 +48,8 @@ impl<R, S: PrintedScale, Q> Machine<R, S, Q> {
         ensures its_lines_can_be_read_again { (scale : S) → scale_in self.now.phase ≡ Some scale
             → EachReadsBack result (reply_lines (S.PrintedScale.shown scale) said.now) }
         ensures no_more_than_there_is_room_for { IfOk result (λ n. n ≤ length out.old) }
-        ensures a_place_for_the_widest_cost_is_long_enough { 480 + 3 * (S.PrintedScale.WIDTH + 2) ≤ length out.old → IsOk result }
+        ensures a_place_for_the_widest_cost_is_long_enough { 480
+            + 3 * (S.PrintedScale.WIDTH + 2) ≤ length out.old → IsOk result }
         ensures the_longest_with_four_bytes_of_cost_is_498 { LONGEST ≡ 498 }
         ensures some_reply_is_as_long { APlanOfEightTrainsOverSixteenStepsHas LONGEST }
     {

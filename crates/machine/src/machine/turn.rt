@@ -25,7 +25,8 @@ impl<R: Rule, S: Scale, Q: Search<S>> Machine<R, S, Q> {
     ghost use Rattle.machine.specs.declared.phase.Phase.TheVariants.{Drawing as IsDrawing};
     ghost use Rattle.machine.specs.declared.said.Said.TheVariants.{Done};
 
-    // Does what a frame asks for, before the finish at the drawing, after it at the planner. A frame on the wrong side of the finish is declined.
+    // Does what a frame asks for, before the finish at the drawing, after it at the planner. A frame on the
+    // wrong side of the finish is declined.
     // Clauses name the meaning of a planner each time, for the reason that stands at `Planner`.
     #[tactic(auto, using(crate::proofs::Turning::no_plan))]
     pub(crate) fn turn(
@@ -34,12 +35,15 @@ impl<R: Rule, S: Scale, Q: Search<S>> Machine<R, S, Q> {
         cells: &mut [Option<S::Cost>],
         sheet: &mut Sheet,
     ) -> Result<Said<S::Cost>, Refusal>
-        ensures the_rules_are_followed { let k = meaning R.Rule.conflicts S.Scale.measure Q.Search.takes in
+        ensures the_rules_are_followed { let k =
+            meaning R.Rule.conflicts S.Scale.measure Q.Search.takes in
             let asked = asked_by (length cells.old) (frame_of frame.entry) in
             (rule : R) (scale : S) (below : Q)
             → TurnOwes k rule scale below self.old.phase asked (reply_of result) sheet.old sheet.new self.new.phase }
-        ensures a_plan_is_told_with_the_trains_the_steps_asked_for_and_the_sheet { TellsPlan (numbers_in self.old.phase) (field (frame_of frame.entry).1 0) sheet.new result }
-        ensures a_declined_frame_changes_nothing { DeclinedLeaves result self.old self.new cells.old cells.new sheet.old sheet.new }
+        ensures a_plan_is_told_with_the_trains_the_steps_asked_for_and_the_sheet { TellsPlan
+            (numbers_in self.old.phase) (field (frame_of frame.entry).1 0) sheet.new result }
+        ensures a_declined_frame_changes_nothing { DeclinedLeaves
+            result self.old self.new cells.old cells.new sheet.old sheet.new }
     {
         match (&mut self.phase, frame) {
             (Some(Phase::Drawing(desk)), Frame::AddSections(part)) => {
@@ -76,7 +80,8 @@ impl<R: Rule, S: Scale, Q: Search<S>> Machine<R, S, Q> {
     fn finish(&mut self) -> Result<Said<S::Cost>, Refusal>
         requires nothing_is_finished { (d : Desk R S Q) × (self.old.phase ≡ Some (IsDrawing d)) }
         ensures it_is_done { result ≡ Ok Done }
-        ensures the_rules_are_followed { let k = meaning R.Rule.conflicts S.Scale.measure Q.Search.takes in
+        ensures the_rules_are_followed { let k =
+            meaning R.Rule.conflicts S.Scale.measure Q.Search.takes in
             (rule : R) (scale : S) (below : Q) (s : Sheet)
             → TurnOwes k rule scale below self.old.phase finish accepted s s self.new.phase }
     {

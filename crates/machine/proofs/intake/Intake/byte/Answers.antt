@@ -16,5 +16,5 @@ returns-clause-a_line_is_done_and_answered_as_soon_as_it_is_ended g c rule scale
     let done = c.line-2 in
     byte_some k rule scale below c.args.self.now (record { cutter = c.push.new.self; machine = done.new.self }) c.args.byte c.push.ensures.the_byte_is_taken xs es h
     c.line.result.now (length c.args.cells.now) c.args.sheet.now done.new.sheet done.result ends c.line.ensures.what_is_held_of_the_line
-    (done.ensures.after_any_lines_the_rules_are_followed_and_a_sheet_is_lawful_cheapest_and_the_first_of_equals rule scale below)
+    (done.ensures.after_any_lines_the_rules_are_followed_and_a_sheet_is_lawful_cheapest_and_first rule scale below)
     (done.ensures.after_any_lines_the_reply_prints_what_they_come_to rule scale below)

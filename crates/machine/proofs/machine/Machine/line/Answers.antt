@@ -12,7 +12,7 @@ returns-in-Ok g c =
     let turn = c.turn.ensures in
     let told = told_of_line line _ _ _ _ read.the_line_writes_the_kind_and_then_the_fields read.the_frame_or_the_first_refusal turn.a_plan_is_told_with_the_trains_the_steps_asked_for_and_the_sheet in
     record {
-      after_any_lines_the_rules_are_followed_and_a_sheet_is_lawful_cheapest_and_the_first_of_equals = λ rule scale below. frame_step k rule scale below m _ line _ _ _ _ _ read.the_frame_or_the_first_refusal (turn.the_rules_are_followed rule scale below);
+      after_any_lines_the_rules_are_followed_and_a_sheet_is_lawful_cheapest_and_first = λ rule scale below. frame_step k rule scale below m _ line _ _ _ _ _ read.the_frame_or_the_first_refusal (turn.the_rules_are_followed rule scale below);
       a_history_of_lines_goes_on_with_the_line = λ rule scale below.
           history_next k rule scale below m _ _ (frame_step k rule scale below m _ line _ _ _ _ _ read.the_frame_or_the_first_refusal (turn.the_rules_are_followed rule scale below));
       a_plan_is_told_with_the_trains_the_steps_asked_for_and_the_sheet = told;
@@ -29,7 +29,7 @@ returns-in-Err g c =
     let s = c.args.sheet.now in
     let read = c.in-Err.ensures.the_frame_or_the_first_refusal in
     record {
-      after_any_lines_the_rules_are_followed_and_a_sheet_is_lawful_cheapest_and_the_first_of_equals = λ rule scale below. declined_step k rule scale below m line _ _ s read;
+      after_any_lines_the_rules_are_followed_and_a_sheet_is_lawful_cheapest_and_first = λ rule scale below. declined_step k rule scale below m line _ _ s read;
       a_history_of_lines_goes_on_with_the_line = λ rule scale below. history_next k rule scale below m _ _ (declined_step k rule scale below m line _ _ s read);
       a_plan_is_told_with_the_trains_the_steps_asked_for_and_the_sheet = tt;
       after_any_lines_the_reply_prints_what_they_come_to = λ rule scale below s h shown. refl;
