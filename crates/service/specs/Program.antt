@@ -13,15 +13,18 @@ use Rattle.table.specs.Columns.{Enough}
 use Rattle.table.specs.declared.table.Table.{Table}
 use Rattle.service.specs.Serving.{Served}
 
--- conflicts by following, costs by steps; taken are the groups with a stuck train, and those that there are cells enough for
+-- moves conflict by following, costs are steps; the check takes the groups with a stuck train,
+-- the table those for which the cells suffice
 abbrev pub its_meaning : Meaning Following Steps (Check (Table ℕ)) ℕ
-its_meaning = meaning (λ r l. following (fouled l)) (λ s. steps) (λ q i cells. Stuck i ⊎ Enough i cells)
+its_meaning =
+    meaning (λ rule l. following (fouled l)) (λ scale. steps) (λ check i cells. Stuck i ⊎ Enough i cells)
 
--- a reader had these bytes and has those left, a writer held these and holds those: each line was answered by the check over this table,
--- with 4,096 cells, or serving failed where it says
-pub record ServedOver {E : Type 0} (table : Table ℕ) (input left old new : Option (List ℕ)) (result : Result (Unit {0}) E) : Type 0 where
+-- a reader had this input and has so much left, a writer held the old bytes and holds the new:
+-- the lines were served under following, by steps, and by the check over this table, with 4,096 cells for each line
+pub record ServedOver {E : Type 0} (table : Table ℕ) (input left old new : Option (List ℕ))
+    (result : Result (Unit {0}) E) : Type 0 where
   pub rule : Following
   pub scale : Steps
-  pub below : Check (Table ℕ)
-  pub over_the_table : below.below ≡ table
-  pub served : Served its_meaning rule scale below 4096 high_first input left old new result
+  pub check : Check (Table ℕ)
+  pub over_the_table : check.below ≡ table
+  pub served : Served its_meaning rule scale check 4096 high_first input left old new result

@@ -16,8 +16,8 @@ use std::io;
 use std::io::Write;
 use track::refusal::Refusal;
 
-// The longest that a reply can print: three characters for each byte of 8 lines of 20 bytes, one a train, and of the line for the total,
-// which has at most 19 bytes for the cost and two beside it.
+// The longest that a reply can print: three characters for each byte of 8 lines of 20 bytes, one a train,
+// and of the line of the total, which has at most 19 bytes for the cost and two beside it.
 const LONGEST: usize = 543;
 
 // Sends what a reply prints, if it prints anything.
@@ -26,9 +26,12 @@ pub(crate) fn answer<O: Write, R: Rule, S: PrintedScale, Q: Search<S>>(
     said: &Result<Said<S::Cost>, Refusal>,
     writer: &mut O,
 ) -> io::Result<()>
-    ensures all_that_it_prints_or_a_beginning { (rule : R) (scale : S) (below : Q) (xs : List ℕ) (es : List (LineEvent S.Cost))
-        → InputHistory (meaning R.Rule.conflicts S.Scale.measure Q.Search.takes) rule scale below xs es intake.now
-        → Sent (O.contents writer.old) (O.contents writer.new) (text (reply_lines (S.PrintedScale.shown scale) said.now)) result }
+    ensures all_that_it_prints_or_a_beginning { let k =
+        meaning R.Rule.conflicts S.Scale.measure Q.Search.takes in
+        (rule : R) (scale : S) (below : Q) (xs : List ℕ) (es : List (LineEvent S.Cost))
+        → InputHistory k rule scale below xs es intake.now
+        → Sent (O.contents writer.old) (O.contents writer.new)
+        (text (reply_lines (S.PrintedScale.shown scale) said.now)) result }
 {
     let mut place = [0; LONGEST];
     match intake.print(said, &mut place) {

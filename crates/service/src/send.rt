@@ -4,8 +4,10 @@ use std::io;
 use std::io::{Error, ErrorKind, Write};
 
 // Writes all of the bytes, and flushes. Where that fails, the first so many of them are written.
+// A write that was interrupted is tried again, and one that takes no byte has failed.
 pub(crate) fn send<O: Write>(writer: &mut O, bytes: &[u8]) -> io::Result<()>
-    ensures all_of_the_bytes_or_a_beginning { Sent (O.contents writer.old) (O.contents writer.new) bytes.now result }
+    ensures all_of_the_bytes_or_a_beginning { Sent
+        (O.contents writer.old) (O.contents writer.new) bytes.now result }
 {
     let mut sent = 0;
     for _ in 0..u64::MAX {

@@ -11,7 +11,9 @@ use sheets::sheet::Sheet;
 use std::io;
 use std::io::{Error, ErrorKind, Read, Write};
 
-// Answers each line by a machine with this rule and scale, over this search, with these cells: as soon as the line is ended, and before more is read.
+// Answers each line by a machine with this rule and scale, over this search, with these cells:
+// as soon as the line is ended, and before more is read.
+// Nothing says that an input ends, so the reads are counted, and after 2 ^ 64 of them serving fails.
 pub(crate) fn serve_by<
     I: Read,
     O: Write,
@@ -26,8 +28,11 @@ pub(crate) fn serve_by<
     below: Q,
     cells: &mut [Option<S::Cost>],
 ) -> io::Result<()>
-    ensures each_line_read_is_answered_in_its_order { Served (meaning R.Rule.conflicts S.Scale.measure Q.Search.takes) rule scale below (length cells.old) (S.PrintedScale.shown scale)
-        (I.remaining reader.old) (I.remaining reader.new) (O.contents writer.old) (O.contents writer.new) result }
+    ensures each_line_read_is_answered_in_its_order { let k =
+        meaning R.Rule.conflicts S.Scale.measure Q.Search.takes in
+        Served k rule scale below (length cells.old) (S.PrintedScale.shown scale)
+        (I.remaining reader.old) (I.remaining reader.new)
+        (O.contents writer.old) (O.contents writer.new) result }
 {
     let mut intake = Intake::new(rule, scale, below);
     let mut sheet = Sheet::default();
@@ -35,8 +40,8 @@ pub(crate) fn serve_by<
     'pieces: for _ in 0..u64::MAX {
         let count = match reader.read(&mut piece) {
             Ok(0) => {
-                if let Some(said) = intake.end(cells, &mut sheet) {
-                    answer(&intake, &said, writer)?;
+                if let Some(last) = intake.end(cells, &mut sheet) {
+                    answer(&intake, &last, writer)?;
                 }
                 return Ok(());
             }
