@@ -16,7 +16,8 @@ impl<R: Rule, S: Scale, Q: Search<S>> Intake<R, S, Q> {
     ghost use Rattle.machine.specs.Inputs.{InputHistory, ByteTaken, InputEnded};
 
     // Takes the next byte. Where it ends a line, the line is done, and this is its reply.
-    #[inline]
+    // It stands in its caller's loop, and the line in a function of its own: most bytes only go to the cutter.
+    #[inline(always)]
     pub fn byte(
         &mut self,
         byte: u8,
