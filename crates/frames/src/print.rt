@@ -62,7 +62,7 @@ fn write_trains(numbers: &[u16], sheet: &Sheet, steps: usize, out: &mut [u8])
 // Prints why a frame was declined, into a place that is lent, and tells the length: printing asks for no memory, so nothing of it
 // can fail but for a place that is too short.
 pub fn print_refusal(refusal: &Refusal, out: &mut [u8]) -> Result<usize, Refusal>
-    ensures its_length_or_30_if_it_does_not_fit { result ≡ printing out.old (text (refusal_lines refusal.now)) }
+    ensures its_length_or_that_it_does_not_fit { result ≡ printing out.old (text (refusal_lines refusal.now)) }
     ensures just_the_text_or_nothing_is_written { out.new ≡ printed out.old (text (refusal_lines refusal.now)) }
     ensures its_line_can_be_read_again { EachReadsBack result (refusal_lines refusal.now) }
 {
@@ -80,7 +80,7 @@ pub fn print_plan<S: PrintedScale>(
     plan: &Plan<S::Cost>,
     out: &mut [u8],
 ) -> Result<usize, Refusal>
-    ensures its_length_or_30_if_it_does_not_fit { result ≡ printing out.old
+    ensures its_length_or_that_it_does_not_fit { result ≡ printing out.old
         (text (lines_of_plan (S.PrintedScale.shown scale.now) plan.now)) }
     ensures just_the_text_or_nothing_is_written { out.new ≡ printed out.old
         (text (lines_of_plan (S.PrintedScale.shown scale.now) plan.now)) }

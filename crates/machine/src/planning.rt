@@ -33,7 +33,7 @@ pub(crate) fn plan_trains<R: Rule, S: Scale, Q: Search<S>>(
         sheet.old sheet.new (Some (IsPlanning planner.new)) }
     ensures the_plan_is_as_it_was_made { TellsPlan
         (numbers_of (held planner.old.roster)) steps sheet.new result }
-    ensures a_declined_plan_changes_nothing { DeclinedLeaves
+    ensures a_declined_plan_changes_nothing_unless_planning_declined_it { DeclinedLeaves
         result planner.old planner.new cells.old cells.new sheet.old sheet.new }
 {
     let answer = planner.plan(steps, cells, sheet);

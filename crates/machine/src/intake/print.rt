@@ -21,7 +21,7 @@ impl<R: Rule, S: PrintedScale, Q: Search<S>> Intake<R, S, Q> {
         said: &Result<Said<S::Cost>, Refusal>,
         out: &mut [u8],
     ) -> Result<usize, Refusal>
-        ensures its_length_or_30_if_it_does_not_fit { (scale
+        ensures its_length_or_that_it_does_not_fit { (scale
             : S) → scale_in self.now.machine.phase ≡ Some scale
             → result ≡ printing out.old (text (reply_lines (S.PrintedScale.shown scale) said.now)) }
         ensures just_the_text_or_nothing_is_written { (scale

@@ -33,7 +33,7 @@ impl<R: Rule, S: Scale, Q: Search<S>> Intake<R, S, Q> {
         ensures the_cutter_takes_the_byte { cut_of self.new.cutter ≡ after (cut_of self.old.cutter) byte }
         ensures a_byte_that_ends_no_line_leaves_machine_cells_and_sheet { (byte == 10) ≡ false
             → (self.new.machine ≡ self.old.machine) × (cells.new ≡ cells.old) × (sheet.new ≡ sheet.old) }
-        ensures a_declined_line_changes_nothing { ForSome result (λ said.
+        ensures a_declined_line_changes_nothing_unless_planning_declined_it { ForSome result (λ said.
             DeclinedLeaves said self.old.machine self.new.machine cells.old cells.new sheet.old sheet.new) }
     {
         if !self.cutter.push(byte) {
@@ -61,7 +61,7 @@ impl<R: Rule, S: Scale, Q: Search<S>> Intake<R, S, Q> {
         ensures nothing_changes_where_none_had_begun { (length
             (begun_of (cut_of self.old.cutter)) == 0) ≡ true
             → (self.new ≡ self.old) × (cells.new ≡ cells.old) × (sheet.new ≡ sheet.old) }
-        ensures a_declined_line_changes_nothing { ForSome result (λ said.
+        ensures a_declined_line_changes_nothing_unless_planning_declined_it { ForSome result (λ said.
             DeclinedLeaves said self.old.machine self.new.machine cells.old cells.new sheet.old sheet.new) }
     {
         if !self.cutter.has_rest() {

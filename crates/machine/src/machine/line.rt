@@ -39,7 +39,7 @@ impl<R: Rule, S: Scale, Q: Search<S>> Machine<R, S, Q> {
             let done = line_event line.now (length cells.old) (reply_of result) sheet.old sheet.new in
             (rule : R) (scale : S) (below : Q) → PrintsByTheLines k rule scale below self.old result done }
         ensures a_line_that_is_no_frame_is_declined_as_it_is_read { DeclinedAsRead line.now result }
-        ensures a_declined_line_changes_nothing { DeclinedLeaves
+        ensures a_declined_line_changes_nothing_unless_planning_declined_it { DeclinedLeaves
             result self.old self.new cells.old cells.new sheet.old sheet.new }
     {
         match read(line) {

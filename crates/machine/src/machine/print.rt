@@ -41,7 +41,7 @@ impl<R, S: PrintedScale, Q> Machine<R, S, Q> {
         said: &Result<Said<S::Cost>, Refusal>,
         out: &mut [u8],
     ) -> Result<usize, Refusal>
-        ensures its_length_or_30_if_it_does_not_fit { (scale : S) → scale_in self.now.phase ≡ Some scale
+        ensures its_length_or_that_it_does_not_fit { (scale : S) → scale_in self.now.phase ≡ Some scale
             → result ≡ printing out.old (text (reply_lines (S.PrintedScale.shown scale) said.now)) }
         ensures just_the_text_or_nothing_is_written { (scale : S) → scale_in self.now.phase ≡ Some scale
             → out.new ≡ printed out.old (text (reply_lines (S.PrintedScale.shown scale) said.now)) }

@@ -42,7 +42,7 @@ impl<R: Rule, S: Scale, Q: Search<S>> Machine<R, S, Q> {
             → TurnOwes k rule scale below self.old.phase asked (reply_of result) sheet.old sheet.new self.new.phase }
         ensures a_plan_is_told_with_the_trains_the_steps_asked_for_and_the_sheet { TellsPlan
             (numbers_in self.old.phase) (field (frame_of frame.entry).1 0) sheet.new result }
-        ensures a_declined_frame_changes_nothing { DeclinedLeaves
+        ensures a_declined_frame_changes_nothing_unless_planning_declined_it { DeclinedLeaves
             result self.old self.new cells.old cells.new sheet.old sheet.new }
     {
         match (&mut self.phase, frame) {

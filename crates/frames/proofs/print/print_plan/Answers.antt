@@ -20,7 +20,7 @@ returns-then-out-length g c =
     let n = count * (3 * (4 + p.steps)) + 3 * (width + 2) in
     let long : length xs ≡ n = length_plan p.numbers p.sheet p.steps (shown p.cost) p.groups count width rows c.write_bytes-width.ensures.so_many_bytes in
     record {
-      its_length_or_30_if_it_does_not_fit = short_told old xs n long c.if-out-length.true;
+      its_length_or_that_it_does_not_fit = short_told old xs n long c.if-out-length.true;
       just_the_text_or_nothing_is_written = short_kept old xs n long c.if-out-length.true;
       its_lines_can_be_read_again = tt;
       a_text_is_cut_into_its_lines = text_into_its_lines;
@@ -54,7 +54,7 @@ returns g c =
     let trains = λ (ns : List ℕ). train_lines ns p.sheet p.steps (length ns) in
     let back : AllByRecursion ReadsBack (trains p.numbers) = subst (λ (ns : List ℕ). AllByRecursion ReadsBack (trains ns)) same c.write_trains.ensures.each_can_be_read_again in
     record {
-      its_length_or_30_if_it_does_not_fit = fits_told old xs n long c.if-out-length.false;
+      its_length_or_that_it_does_not_fit = fits_told old xs n long c.if-out-length.false;
       just_the_text_or_nothing_is_written = written_rest c.write_trains.new.out c.write_line.new.out at _ _ c.write_line.ensures.the_line_is_written refl
           ∙ ap (λ (z : List ℕ). written c.write_trains.new.out at (line_of z)) bytes
           ∙ ap (λ (z : List ℕ). written z at (line_of total)) (c.write_trains.ensures.their_lines_are_written ∙ ap (λ (ns : List ℕ). written old 0 (text (trains ns))) same)

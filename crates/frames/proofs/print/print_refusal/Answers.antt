@@ -18,7 +18,7 @@ returns-then-out-lt6 c =
     let old = c.args.out.now in
     let e = c.args.refusal.now in
     record {
-      its_length_or_30_if_it_does_not_fit = short_told old (text (refusal_lines e)) 6 (six e) (omega arith);
+      its_length_or_that_it_does_not_fit = short_told old (text (refusal_lines e)) 6 (six e) (omega arith);
       just_the_text_or_nothing_is_written = short_kept old (text (refusal_lines e)) 6 (six e) (omega arith);
       its_line_can_be_read_again = tt;
     }
@@ -29,7 +29,7 @@ returns c =
     let e = c.args.refusal.now in
     let small : AllByRecursion (λ b. b < 256) (31 ∷ (number_of e ∷ [])) = subst (λ (n : ℕ). AllByRecursion (λ b. b < 256) (31 ∷ (n ∷ []))) c.number.ensures.the_number_of_the_reason c.write_line.ensures.all_are_bytes in
     record {
-      its_length_or_30_if_it_does_not_fit = fits_told old (text (refusal_lines e)) 6 (six e) (omega arith);
+      its_length_or_that_it_does_not_fit = fits_told old (text (refusal_lines e)) 6 (six e) (omega arith);
       just_the_text_or_nothing_is_written = c.write_line.ensures.the_line_is_written
           ∙ ap (λ (n : ℕ). written old 0 (line_of (31 ∷ (n ∷ [])))) c.number.ensures.the_number_of_the_reason
           ∙ ap (written old 0) (sym (append-nil (line_of (31 ∷ (number_of e ∷ [])))))

@@ -32,7 +32,7 @@ returns g c =
       the_rules_are_followed = λ rule scale below.
           turn_from k rule scale below _ _ _ _ _ _ _ _ _ _ (call_turn k rule scale below p told.new.self _ _ s told.new.sheet told.ensures.after_any_calls_a_sheet_is_lawful_cheapest_and_the_first_of_equals) refl refl refl said.ensures.it_tells_the_answer;
       the_plan_is_as_it_was_made = rw (sym numbers) said.ensures.the_plan_is_as_it_was_made;
-      a_declined_plan_changes_nothing = told_leaves _ _ cells told.new.cells s told.new.sheet said.result told.result said.ensures.it_tells_the_answer
+      a_declined_plan_changes_nothing_unless_planning_declined_it = told_leaves _ _ cells told.new.cells s told.new.sheet said.result told.result said.ensures.it_tells_the_answer
           (plan_leaves (setting_of k p) (seen p.roster) p told.new.self c.args.steps (length cells) cells told.new.cells s told.new.sheet _ told.result
           told.ensures.a_sheet_is_lawful_cheapest_and_first_or_told_to_be_none_or_beyond_reach told.ensures.a_plan_that_the_book_declines_leaves_planner_cells_and_sheet_as_they_were);
     }

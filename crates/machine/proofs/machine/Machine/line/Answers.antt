@@ -18,7 +18,7 @@ returns-in-Ok g c =
       a_plan_is_told_with_the_trains_the_steps_asked_for_and_the_sheet = told;
       after_any_lines_the_reply_prints_what_they_come_to = λ rule scale below. told_prints k rule scale below m line (length c.args.cells.now) c.args.sheet.now c.turn.new.sheet c.turn.result told;
       a_line_that_is_no_frame_is_declined_as_it_is_read = frame_told line _ read.the_frame_or_the_first_refusal _;
-      a_declined_line_changes_nothing = turn.a_declined_frame_changes_nothing;
+      a_declined_line_changes_nothing_unless_planning_declined_it = turn.a_declined_frame_changes_nothing_unless_planning_declined_it;
     }
 
 pub returns-in-Err : goal.returns-in-Err
@@ -34,5 +34,5 @@ returns-in-Err g c =
       a_plan_is_told_with_the_trains_the_steps_asked_for_and_the_sheet = tt;
       after_any_lines_the_reply_prints_what_they_come_to = λ rule scale below s h shown. refl;
       a_line_that_is_no_frame_is_declined_as_it_is_read = refusal_told line _ read;
-      a_declined_line_changes_nothing = record { sheet = refl; machine = λ p. refl; cells_too = λ p. refl };
+      a_declined_line_changes_nothing_unless_planning_declined_it = record { sheet = refl; machine = λ p. refl; cells_too = λ p. refl };
     }

@@ -53,8 +53,8 @@ returns-in-Some-Planning-Enter-clause-the_rules_are_followed g c = λ rule scale
     done_turn k rule scale below c.args.self.now.phase _ _ _ _ told.result _ s was (rw (i.is-1, c.number.ensures.two_bytes_the_high_one_first, c.byte-in-Some-Planning-Enter.ensures.the_byte_or_zero, c.byte-in-Some-Planning-Enter-2.ensures.the_byte_or_zero) refl) c.and-in-Some-Planning-Enter.ensures
     (call_turn k rule scale below i.planner told.new.self _ _ s s (told.ensures.after_any_calls_the_reply_is_that_of_the_book s))
 
-pub returns-in-Some-Planning-Enter-clause-a_declined_frame_changes_nothing : goal.returns-in-Some-Planning-Enter-clause-a_declined_frame_changes_nothing
-returns-in-Some-Planning-Enter-clause-a_declined_frame_changes_nothing g c =
+pub returns-in-Some-Planning-Enter-clause-a_declined_frame_changes_nothing_unless_planning_declined_it : goal.returns-in-Some-Planning-Enter-clause-a_declined_frame_changes_nothing_unless_planning_declined_it
+returns-in-Some-Planning-Enter-clause-a_declined_frame_changes_nothing_unless_planning_declined_it g c =
     let i = c.in-Some-Planning-Enter in
     let told = c.enter-answer in
     let was : c.args.self.now.phase ≡ Some (Planning i.planner) = search rules in
@@ -85,5 +85,5 @@ returns-in-Some-Planning-Plan g c =
       the_rules_are_followed = λ rule scale below.
           turn_from k rule scale below c.args.self.now.phase _ _ _ _ _ _ _ s told.new.sheet (told.ensures.the_rules_are_followed rule scale below) was refl (rw (named, i.is-1) refl) refl;
       a_plan_is_told_with_the_trains_the_steps_asked_for_and_the_sheet = rw (was, sym named) told.ensures.the_plan_is_as_it_was_made;
-      a_declined_frame_changes_nothing = machine_is_left (λ (p : Planner g.row.R.Denot g.row.S.Denot g.row.Q.Denot). Some (Planning p)) told.result i.planner told.new.planner _ _ cells told.new.cells s told.new.sheet was refl told.ensures.a_declined_plan_changes_nothing;
+      a_declined_frame_changes_nothing_unless_planning_declined_it = machine_is_left (λ (p : Planner g.row.R.Denot g.row.S.Denot g.row.Q.Denot). Some (Planning p)) told.result i.planner told.new.planner _ _ cells told.new.cells s told.new.sheet was refl told.ensures.a_declined_plan_changes_nothing_unless_planning_declined_it;
     }
