@@ -5,15 +5,15 @@ use Rattle.std.specs.Result.{result_and}
 use Rattle.track.specs.Model.{drawn, laid}
 use Rattle.track.specs.Refusals.{AsItWas}
 use Rattle.track.specs.declared.refusal.Refusal.{Refusal}
-use Rattle.roster.specs.Book.{Call, plan}
+use Rattle.roster.specs.Book.{Call, enter, withdraw, possess, give_up, ask, plan}
 use Rattle.sheets.specs.declared.sheet.Sheet.{Sheet}
 use Rattle.planner.specs.Promise.{Reply, accepted}
 use Rattle.planner.specs.History.{Meaning, Stands, Step, event, says_done}
 use Rattle.planner.specs.declared.planner.Planner.{Planner}
-use Rattle.machine.specs.Asked.{Asked, finish, call}
+use Rattle.machine.specs.Asked.{Asked, sections, link, foul, finish, call}
 use Rattle.machine.specs.Progress.{drawing, planning}
 use Rattle.machine.specs.Phases.{CallKept, reply_of, TellsPlan}
-use Rattle.machine.specs.Lines.{TurnOwes, DeclinedLeaves}
+use Rattle.machine.specs.Lines.{TurnOwes, OnlyAPlanPlans, DeclinedLeaves}
 use Rattle.machine.specs.declared.desk.Desk.{Desk}
 use Rattle.machine.specs.declared.machine.Machine.{Machine}
 use Rattle.machine.specs.declared.phase.Phase.{Phase}
@@ -102,3 +102,19 @@ module _ {R S Q C : Type 0} (k : Meaning R S Q C) (rule : R) (scale : S) (below 
   pub done_turn : (p o next : Option (Phase R S Q)) (a b : Asked) (r : Result (Unit {0}) Refusal) (t : Result (Said C) Refusal) (s : Sheet) → p ≡ o → a ≡ b
       → t ≡ result_and r (Ok Done) → TurnOwes k rule scale below o b (says_done r) s s next → TurnOwes k rule scale below p a (reply_of t) s s next
   done_turn p o next a b r t s e f d h = turn_as k rule scale below p o next a b _ _ s s e f (done_said r t d) h
+
+-- where nothing changes nothing is planned, whatever is asked
+plans_nothing : {R S Q A : Type 0} (a : Asked) (phase : Option (Phase R S Q)) (cells : List A) → OnlyAPlanPlans a phase phase cells cells
+plans_nothing (sections k) phase cells = record { cells = refl; search = refl }
+plans_nothing (link a b p) phase cells = record { cells = refl; search = refl }
+plans_nothing (foul a b c d) phase cells = record { cells = refl; search = refl }
+plans_nothing finish phase cells = refl
+plans_nothing (call (enter v s g)) phase cells = record { cells = refl; search = refl }
+plans_nothing (call (withdraw v)) phase cells = record { cells = refl; search = refl }
+plans_nothing (call (possess s)) phase cells = record { cells = refl; search = refl }
+plans_nothing (call (give_up s)) phase cells = record { cells = refl; search = refl }
+plans_nothing (call ask) phase cells = record { cells = refl; search = refl }
+plans_nothing (call (plan steps n)) phase cells = tt
+
+pub plans_nothing_at : {R S Q A : Type 0} (a : Asked) (was now : Option (Phase R S Q)) (cells : List A) → now ≡ was → OnlyAPlanPlans a was now cells cells
+plans_nothing_at a was now cells e = rw e (plans_nothing a was cells)

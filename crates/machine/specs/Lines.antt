@@ -1,18 +1,19 @@
 -- What the reply to a line keeps, over any list of lines.
-use Rattle.std.specs.Prelude.{◌≡◌, ℕ, Bool, false, ◌||◌, List, [], ◌∷◌, Some, Option, Ok, Err, Result, ◌==◌}
+use Rattle.std.specs.Prelude.{◌≡◌, ℕ, Bool, false, ◌||◌, List, [], ◌∷◌, Some, None, Option, Ok, Err, Result, ◌==◌}
 use Rattle.track.specs.Refusals.{number_of}
 use Rattle.track.specs.declared.refusal.Refusal.{Refusal}
 use Rattle.sheets.specs.declared.sheet.Sheet.{Sheet}
 use Rattle.frames.specs.Frames.{Told, read_as}
 use Rattle.planner.specs.Promise.{Reply, declined}
 use Rattle.planner.specs.History.{Meaning, says_done}
-use Rattle.machine.specs.Asked.{Asked, asked_by}
+use Rattle.roster.specs.Book.{Call, enter, withdraw, possess, give_up, ask, plan}
+use Rattle.machine.specs.Asked.{Asked, sections, link, foul, finish, call, asked_by}
 use Rattle.machine.specs.Progress.{Progress, Handed, handed, moved, after_line, beginning, progress_of}
 use Rattle.machine.specs.Phases.{StandsAt, FrameKept}
 use Rattle.machine.specs.declared.desk.Desk.{Desk}
 use Rattle.machine.specs.declared.machine.Machine.{Machine}
 use Rattle.machine.specs.declared.phase.Phase.{Phase}
-use Rattle.machine.specs.declared.phase.Phase.TheVariants.{Drawing}
+use Rattle.machine.specs.declared.phase.Phase.TheVariants.{Drawing, Planning}
 
 -- a line with how many cells were handed in with it, its reply, and the sheet before and after it
 pub record LineEvent (C : Type 0) : Type 0 where
@@ -76,6 +77,39 @@ module _ {R S Q C : Type 0} (k : Meaning R S Q C) (rule : R) (scale : S) (below 
 abbrev pub DrawOwes : {R S Q C : Type 0} → Meaning R S Q C → Desk R S Q → Asked → Result (Unit {0}) Refusal → Desk R S Q → Type 0
 DrawOwes {R} {S} {Q} k desk asked r after_it =
     (rule : R) (scale : S) (below : Q) (s : Sheet) → TurnOwes k rule scale below (Some (Drawing desk)) asked (says_done r) s s (Some (Drawing after_it))
+
+-- the search that a planner holds, once there is one
+abbrev pub search_in : {R S Q : Type 0} → Option (Phase R S Q) → Option Q
+search_in (Some (Planning p)) = Some p.search.below
+search_in (Some (Drawing d)) = None
+search_in None = None
+
+-- nothing is planned: the cells are as they were, and so is the search
+pub record NothingPlanned {R S Q A : Type 0} (was now : Option (Phase R S Q)) (had has : List A) : Type 0 where
+  pub cells : has ≡ had
+  pub search : search_in now ≡ search_in was
+
+abbrev pub PlansByCall : {R S Q A : Type 0} → Call → (was now : Option (Phase R S Q)) → (had has : List A) → Type 0
+PlansByCall (enter v s g) was now had has = NothingPlanned was now had has
+PlansByCall (withdraw v) was now had has = NothingPlanned was now had has
+PlansByCall (possess s) was now had has = NothingPlanned was now had has
+PlansByCall (give_up s) was now had has = NothingPlanned was now had has
+PlansByCall ask was now had has = NothingPlanned was now had has
+PlansByCall (plan steps cells) was now had has = Unit {0}
+
+-- a frame that asks for no plan plans nothing; the finish makes the planner, and leaves the cells
+abbrev pub OnlyAPlanPlans : {R S Q A : Type 0} → Asked → (was now : Option (Phase R S Q)) → (had has : List A) → Type 0
+OnlyAPlanPlans (sections k) was now had has = NothingPlanned was now had has
+OnlyAPlanPlans (link a b p) was now had has = NothingPlanned was now had has
+OnlyAPlanPlans (foul a b c d) was now had has = NothingPlanned was now had has
+OnlyAPlanPlans finish was now had has = has ≡ had
+OnlyAPlanPlans (call c) was now had has = PlansByCall c was now had has
+
+-- the same of a line, by what it is read as: a line that is no frame plans nothing
+abbrev pub PlansAsRead : {R S Q A : Type 0} → (cells : ℕ) → Result Told Refusal
+    → (was now : Option (Phase R S Q)) → (had has : List A) → Type 0
+PlansAsRead cells (Ok t) was now had has = OnlyAPlanPlans (asked_by cells t) was now had has
+PlansAsRead cells (Err e) was now had has = NothingPlanned was now had has
 
 -- whether the planning itself came to the refusal: beyond reach, or no lawful sheet. All others are conditions of a call
 abbrev pub by_planning : Refusal → Bool

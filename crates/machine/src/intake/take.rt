@@ -11,8 +11,9 @@ impl<R: Rule, S: Scale, Q: Search<S>> Intake<R, S, Q> {
     ghost use Rattle.std.specs.Option.{ForSome};
     ghost use Rattle.frames.specs.Cuts.{begun_of, after};
     ghost use Rattle.frames.specs.Cutters.{cut_of};
+    ghost use Rattle.frames.specs.Frames.{read_as};
     ghost use Rattle.planner.specs.History.{meaning};
-    ghost use Rattle.machine.specs.Lines.{LineEvent, DeclinedLeaves};
+    ghost use Rattle.machine.specs.Lines.{LineEvent, PlansAsRead, DeclinedLeaves};
     ghost use Rattle.machine.specs.Inputs.{InputHistory, ByteTaken, InputEnded};
 
     // Takes the next byte. Where it ends a line, the line is done, and this is its reply.
@@ -33,6 +34,9 @@ impl<R: Rule, S: Scale, Q: Search<S>> Intake<R, S, Q> {
         ensures the_cutter_takes_the_byte { cut_of self.new.cutter ≡ after (cut_of self.old.cutter) byte }
         ensures a_byte_that_ends_no_line_leaves_machine_cells_and_sheet { (byte == 10) ≡ false
             → (self.new.machine ≡ self.old.machine) × (cells.new ≡ cells.old) × (sheet.new ≡ sheet.old) }
+        ensures only_a_line_that_asks_for_a_plan_plans { (byte == 10) ≡ true
+            → PlansAsRead (length cells.old) (read_as (cut_of self.new.cutter).line)
+            self.old.machine.phase self.new.machine.phase cells.old cells.new }
         ensures a_declined_line_changes_nothing_unless_planning_declined_it { ForSome result (λ said.
             DeclinedLeaves said self.old.machine self.new.machine cells.old cells.new sheet.old sheet.new) }
     {
@@ -61,6 +65,9 @@ impl<R: Rule, S: Scale, Q: Search<S>> Intake<R, S, Q> {
         ensures nothing_changes_where_none_had_begun { (length
             (begun_of (cut_of self.old.cutter)) == 0) ≡ true
             → (self.new ≡ self.old) × (cells.new ≡ cells.old) × (sheet.new ≡ sheet.old) }
+        ensures only_a_line_that_asks_for_a_plan_plans { is_some result ≡ true
+            → PlansAsRead (length cells.old) (read_as (cut_of self.new.cutter).line)
+            self.old.machine.phase self.new.machine.phase cells.old cells.new }
         ensures a_declined_line_changes_nothing_unless_planning_declined_it { ForSome result (λ said.
             DeclinedLeaves said self.old.machine self.new.machine cells.old cells.new sheet.old sheet.new) }
     {

@@ -10,8 +10,9 @@ use track::refusal::Refusal;
 impl<R: Rule, S: Scale, Q: Search<S>> Machine<R, S, Q> {
     ghost use Rattle.std.specs.Prelude.{List, [], ◌∷◌, ◌++◌, length};
     ghost use Rattle.planner.specs.History.{meaning};
+    ghost use Rattle.frames.specs.Frames.{read_as};
     ghost use Rattle.machine.specs.Phases.{reply_of, numbers_in, steps_asked, TellsPlan, DeclinedAsRead};
-    ghost use Rattle.machine.specs.Lines.{LineEvent, line_event, LineStep, LineHistory, DeclinedLeaves};
+    ghost use Rattle.machine.specs.Lines.{LineEvent, line_event, LineStep, LineHistory, PlansAsRead, DeclinedLeaves};
     ghost use Rattle.machine.specs.Printing.{PrintsByTheLines};
 
     // Does the frame of a line, given without its ending 0A, or says why it is declined.
@@ -39,6 +40,8 @@ impl<R: Rule, S: Scale, Q: Search<S>> Machine<R, S, Q> {
             let done = line_event line.now (length cells.old) (reply_of result) sheet.old sheet.new in
             (rule : R) (scale : S) (below : Q) → PrintsByTheLines k rule scale below self.old result done }
         ensures a_line_that_is_no_frame_is_declined_as_it_is_read { DeclinedAsRead line.now result }
+        ensures only_a_line_that_asks_for_a_plan_plans { PlansAsRead
+            (length cells.old) (read_as line.now) self.old.phase self.new.phase cells.old cells.new }
         ensures a_declined_line_changes_nothing_unless_planning_declined_it { DeclinedLeaves
             result self.old self.new cells.old cells.new sheet.old sheet.new }
     {

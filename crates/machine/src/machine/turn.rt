@@ -20,7 +20,7 @@ impl<R: Rule, S: Scale, Q: Search<S>> Machine<R, S, Q> {
     ghost use Rattle.machine.specs.Asked.{asked_by, field};
     ghost use Rattle.machine.specs.Asked.Asked.{finish};
     ghost use Rattle.machine.specs.Phases.{reply_of, numbers_in, TellsPlan};
-    ghost use Rattle.machine.specs.Lines.{TurnOwes, DeclinedLeaves};
+    ghost use Rattle.machine.specs.Lines.{TurnOwes, OnlyAPlanPlans, DeclinedLeaves};
     ghost use Rattle.machine.specs.declared.desk.Desk.{Desk};
     ghost use Rattle.machine.specs.declared.phase.Phase.TheVariants.{Drawing as IsDrawing};
     ghost use Rattle.machine.specs.declared.said.Said.TheVariants.{Done};
@@ -42,6 +42,8 @@ impl<R: Rule, S: Scale, Q: Search<S>> Machine<R, S, Q> {
             → TurnOwes k rule scale below self.old.phase asked (reply_of result) sheet.old sheet.new self.new.phase }
         ensures a_plan_is_told_with_the_trains_the_steps_asked_for_and_the_sheet { TellsPlan
             (numbers_in self.old.phase) (field (frame_of frame.entry).1 0) sheet.new result }
+        ensures only_a_frame_that_asks_for_a_plan_plans { let asked = asked_by (length cells.old) (frame_of frame.entry) in
+            OnlyAPlanPlans asked self.old.phase self.new.phase cells.old cells.new }
         ensures a_declined_frame_changes_nothing_unless_planning_declined_it { DeclinedLeaves
             result self.old self.new cells.old cells.new sheet.old sheet.new }
     {

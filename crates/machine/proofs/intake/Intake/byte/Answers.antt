@@ -1,4 +1,4 @@
-use Rattle.std.proofs.Common.{◌≡◌, true, false, length, eqb, refl, rules}
+use Rattle.std.proofs.Common.{◌≡◌, true, false, length, eqb, sym, refl, rules}
 use Rattle.planner.specs.History.{meaning}
 use Rattle.machine.proofs.Taking.{byte_none, byte_some}
 use Rattle.machine.proofs.intake.Intake.byte.Goals as goal
@@ -18,3 +18,6 @@ returns-clause-a_line_is_done_and_answered_as_soon_as_it_is_ended g c rule scale
     c.line.result.now (length c.args.cells.now) c.args.sheet.now done.new.sheet done.result ends c.line.ensures.what_is_held_of_the_line
     (done.ensures.after_any_lines_the_rules_are_followed_and_a_sheet_is_lawful_cheapest_and_first rule scale below)
     (done.ensures.after_any_lines_the_reply_prints_what_they_come_to rule scale below)
+
+pub returns-clause-only_a_line_that_asks_for_a_plan_plans : goal.returns-clause-only_a_line_that_asks_for_a_plan_plans
+returns-clause-only_a_line_that_asks_for_a_plan_plans g c = λ e. rw (sym c.line.ensures.what_is_held_of_the_line) c.line-2.ensures.only_a_line_that_asks_for_a_plan_plans
