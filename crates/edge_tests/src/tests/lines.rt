@@ -204,7 +204,7 @@ type Reply = Option<Result<Said<u16>, Refusal>>;
 // The reply to the last of these lines, which no 0A ends. The others have to be done.
 fn last_reply(
     rt: &impl Abort,
-    intake: &mut Intake<Following, Steps, Table>,
+    intake: &mut Intake<Following, Steps, Table<u16>>,
     sheet: &mut Sheet,
     text: &[u8],
 ) -> Reply {
@@ -222,7 +222,7 @@ const ENTERED: &[u8] = b"01 02\n02 00 01 00\n04\n05 00 07 00 01\n";
 // A place that is too short is left as it was, and the reply is printed into a longer one, whatever was done since.
 #[test]
 fn a_reply_is_printed_again(rt: HostRuntime) -> Result<(), Fail> {
-    let mut intake = Intake::new(Following, Steps, Table);
+    let mut intake = Intake::new(Following, Steps, Table::new(rt.alloc())?);
     let mut sheet = Sheet::default();
     assert!(rt; last_reply(&rt, &mut intake, &mut sheet, ENTERED).is_none());
     let said = last_reply(&rt, &mut intake, &mut sheet, b"07 02").expect(&rt, "a reply");
@@ -244,7 +244,7 @@ fn a_reply_is_printed_again(rt: HostRuntime) -> Result<(), Fail> {
 // After a withdrawal the plan is of the trains that are left.
 #[test]
 fn a_plan_after_a_withdrawal(rt: HostRuntime) -> Result<(), Fail> {
-    let mut intake = Intake::new(Following, Steps, Table);
+    let mut intake = Intake::new(Following, Steps, Table::new(rt.alloc())?);
     let mut sheet = Sheet::default();
     assert!(rt; last_reply(&rt, &mut intake, &mut sheet, ENTERED).is_none());
     let text = b"05 00 09 01 00\n06 00 07\n07 01";

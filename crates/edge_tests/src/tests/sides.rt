@@ -3,20 +3,21 @@ use machine::machine::Machine;
 use rules::following::Following;
 use scales::steps::Steps;
 use sheets::sheet::Sheet;
+use std::alloc::{AllocError, Global};
 use std::process::Abort;
 use std::test::Fail;
 use table::table::Table;
 
 // The number with which a machine declines the last of these lines, or 0.
-fn last_of(lines: &[&[u8]]) -> u8 {
-    let mut machine = Machine::new(Following, Steps, Table);
+fn last_of(alloc: Global, lines: &[&[u8]]) -> Result<u8, AllocError> {
+    let mut machine = Machine::new(Following, Steps, Table::new(alloc)?);
     let mut sheet = Sheet::default();
     let mut number = 0;
     for line in lines {
         let said = machine.line(line, &mut [None; 4], &mut sheet);
         number = number_of(said.map(|_| ()));
     }
-    number
+    Ok(number)
 }
 
 // Two sections and the link between them.
@@ -39,7 +40,7 @@ fn before_the_finish(rt: HostRuntime) -> Result<(), Fail> {
         (b"07 00", 29),
     ];
     for (line, number) in cases {
-        assert_eq!(rt; last_of(&[DRAWN[0], DRAWN[1], line]), number, "{line:?}");
+        assert_eq!(rt; last_of(rt.alloc(), &[DRAWN[0], DRAWN[1], line])?, number, "{line:?}");
     }
     Ok(())
 }
@@ -62,7 +63,7 @@ fn after_the_finish(rt: HostRuntime) -> Result<(), Fail> {
     ];
     for (line, number) in cases {
         assert_eq!(rt;
-            last_of(&[DRAWN[0], DRAWN[1], b"04", line]),
+            last_of(rt.alloc(), &[DRAWN[0], DRAWN[1], b"04", line])?,
             number,
             "{line:?}"
         );
@@ -77,9 +78,9 @@ fn a_frame_on_the_wrong_side_changes_nothing(rt: HostRuntime) -> Result<(), Fail
     for line in early {
         // no train was entered before the finish
         let empty: [&[u8]; 5] = [DRAWN[0], DRAWN[1], line, b"04", b"07 01"];
-        assert_eq!(rt; last_of(&empty), 22, "{line:?}");
+        assert_eq!(rt; last_of(rt.alloc(), &empty)?, 22, "{line:?}");
         let entered: [&[u8]; 6] = [DRAWN[0], DRAWN[1], line, b"04", b"05 00 07 00 01", b"07 01"];
-        assert_eq!(rt; last_of(&entered), 0, "{line:?}");
+        assert_eq!(rt; last_of(rt.alloc(), &entered)?, 0, "{line:?}");
     }
     let late: [&[u8]; 4] = [b"01 01", b"02 00 01 00", b"03 00 01 00 01", b"04"];
     for line in late {
@@ -92,9 +93,9 @@ fn a_frame_on_the_wrong_side_changes_nothing(rt: HostRuntime) -> Result<(), Fail
             line,
             b"05 00 09 00 02",
         ];
-        assert_eq!(rt; last_of(&drawn), 1, "{line:?}");
+        assert_eq!(rt; last_of(rt.alloc(), &drawn)?, 1, "{line:?}");
         let stays: [&[u8]; 6] = [DRAWN[0], DRAWN[1], b"04", b"05 00 07 00 01", line, b"07 01"];
-        assert_eq!(rt; last_of(&stays), 0, "{line:?}");
+        assert_eq!(rt; last_of(rt.alloc(), &stays)?, 0, "{line:?}");
     }
     Ok(())
 }
