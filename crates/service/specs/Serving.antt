@@ -71,7 +71,7 @@ module _ {R S Q C : Type 0} (k : Meaning R S Q C) (rule : R) (scale : S) (below 
     Outcome read left old new (Err e) = Failed read left old new
 
     -- a reader had this input and has so much left, a writer held the old bytes and holds the new.
-    -- Of a reader or writer whose bytes are not known nothing is said, and of the other end all the same
+    -- Of a reader or a writer whose bytes are not known nothing is said
     pub record Served {E : Type 0} (input left old new : Option (List ℕ)) (result : Result (Unit {0}) E)
         : Type 0 where
       pub read : List ℕ

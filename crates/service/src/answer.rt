@@ -16,9 +16,9 @@ use std::io;
 use std::io::Write;
 use track::refusal::Refusal;
 
-// The longest that a reply can print: three characters for each byte of 8 lines of 20 bytes, one a train,
+// Room for the longest that a reply can print: three characters for each byte of 8 lines of 20 bytes, one a train,
 // and of the line of the total, which has at most 19 bytes for the cost and two beside it.
-const LONGEST: usize = 543;
+const ROOM: usize = 543;
 
 // Sends what a reply prints, if it prints anything.
 pub(crate) fn answer<O: Write, R: Rule, S: PrintedScale, Q: Search<S>>(
@@ -33,7 +33,7 @@ pub(crate) fn answer<O: Write, R: Rule, S: PrintedScale, Q: Search<S>>(
         → Sent (O.contents writer.old) (O.contents writer.new)
         (text (reply_lines (S.PrintedScale.shown scale) said.now)) result }
 {
-    let mut place = [0; LONGEST];
+    let mut place = [0; ROOM];
     match intake.print(said, &mut place) {
         Ok(0) => Ok(()),
         Ok(length) => send(writer, &place[..length]),

@@ -1,3 +1,3 @@
 mod failures;
 mod fakes;
-mod session;
+mod lines;

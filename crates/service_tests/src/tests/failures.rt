@@ -1,5 +1,5 @@
 use crate::tests::fakes::{Events, Full, Giver, Happened, Taker};
-use crate::tests::session::{expected, input};
+use crate::tests::lines::{expected, input};
 use service::serve::serve;
 use std::alloc::Global;
 use std::cell::RefCell;

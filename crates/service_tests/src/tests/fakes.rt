@@ -22,7 +22,8 @@ pub(crate) fn add(events: &Events, event: Happened) -> io::Result<()> {
     }
 }
 
-// Gives its bytes, at most so many a read, and before each of them says once that it was interrupted. After all of them it ends, or fails.
+// Gives its bytes, at most so many a read, and before each of them says once that it was interrupted.
+// After all of them it ends, or fails.
 #[derive(Drop)]
 pub(crate) struct Giver<'a> {
     pub(crate) events: &'a Events,
@@ -64,7 +65,8 @@ pub(crate) enum Full {
     FailsToFlush,
 }
 
-// Takes at most so many bytes a write, and before each write says once that it was interrupted; when its room is used up it does as `full` says.
+// Takes at most so many bytes a write, and before each write says once that it was interrupted.
+// When its room is used up it does as `full` says.
 #[derive(Drop)]
 pub(crate) struct Taker<'a> {
     pub(crate) events: &'a Events,

@@ -7,8 +7,9 @@ use std::io::Read;
 use std::test::Fail;
 use table::table::Table;
 
-// Lines with what each prints: two sections and a link, a finish, a train and a plan; then lines that are declined, the last of them with no 0A.
-const SESSION: [(&[u8], &[u8]); 10] = [
+// Lines with what each prints: two sections and a link, a finish, a train and a plan;
+// then lines that are declined, the last of them with no 0A.
+const LINES: [(&[u8], &[u8]); 10] = [
     (b"01 02\n", b""),
     (b"02 00 01 00\n", b""),
     (b"04\n", b""),
@@ -26,7 +27,7 @@ const SESSION: [(&[u8], &[u8]); 10] = [
 
 pub(crate) fn input(alloc: Global) -> Result<Vec<u8>, AllocError> {
     let mut input = Vec::new(alloc);
-    for (line, _) in SESSION {
+    for (line, _) in LINES {
         input.extend_from_slice(line)?;
     }
     Ok(input)
@@ -35,7 +36,7 @@ pub(crate) fn input(alloc: Global) -> Result<Vec<u8>, AllocError> {
 // What happens where each line is read up to its end, and then its answer is written and flushed.
 pub(crate) fn expected(alloc: Global) -> io::Result<Vec<Happened>> {
     let events: Events = RefCell::new(Vec::new(alloc));
-    for (line, answer) in SESSION {
+    for (line, answer) in LINES {
         for byte in line {
             add(&events, Happened::Read(*byte))?;
         }
@@ -83,7 +84,7 @@ fn any_cut_of_the_input_gives_the_same_answers(rt: HostRuntime) -> Result<(), Fa
     let alloc = rt.alloc();
     let input = input(alloc)?;
     let mut answers = Vec::new(alloc);
-    for (_, answer) in SESSION {
+    for (_, answer) in LINES {
         answers.extend_from_slice(answer)?;
     }
     for cut in 0..=input.len() {
