@@ -132,4 +132,3 @@ module _ {C : Type 0} (S : Measure C) (L : MeasureLaws S) where
       let up' : NoHigher S L s (S.join s d) = subst (λ v. NoHigher S L v (S.join s d)) (L.join_nothing s (omega arith)) up in
       let f : S.lower (S.join s d) b ≡ false = not_lower (S.join s d) b (no_higher_trans S L b s (S.join s d) (no_higher S L b s (not-true _ e)) up') in
       simp f
-

@@ -26,18 +26,12 @@ impl<S: Scale> Search<S> for Walk {
         cells: &mut [Option<S::Cost>],
         sheet: &mut Sheet,
     ) -> Answer<S::Cost>
-        ensures asking_leaves_the_meaning {
-            let takes = ⟦<Walk as Search<S>>⟧.takes in
-            SameMeaning (takes self.new) (takes self.old)
-        }
-        ensures the_answer_is_right {
-            let i = inquired R.Rule.conflicts S.Scale.measure asked.now in
-            Answered i (trains i ≤ self.old.most) sheet.old sheet.new result
-        }
-        ensures it_takes_the_groups_up_to_its_greatest {
-            (i : Inquiry S.Cost) (cells : ℕ) →
-                Same (⟦<Walk as Search<S>>⟧.takes self.old i cells) (trains i ≤ self.old.most)
-        }
+        ensures asking_leaves_the_meaning { let takes = ⟦<Walk as Search<S>>⟧.takes in
+            SameMeaning (takes self.new) (takes self.old) }
+        ensures the_answer_is_right { let i = inquired R.Rule.conflicts S.Scale.measure asked.now in
+            Answered i (trains i ≤ self.old.most) sheet.old sheet.new result }
+        ensures it_takes_the_groups_up_to_its_greatest { (i : Inquiry S.Cost) (cells : ℕ) →
+            Same (⟦<Walk as Search<S>>⟧.takes self.old i cells) (trains i ≤ self.old.most) }
         ensures the_walk_stays_as_it_was { self.new ≡ self.old }
         ensures no_cell_is_used { cells.new ≡ cells.old }
     {

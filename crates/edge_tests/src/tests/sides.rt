@@ -40,7 +40,11 @@ fn before_the_finish(rt: HostRuntime) -> Result<(), Fail> {
         (b"07 00", 29),
     ];
     for (line, number) in cases {
-        assert_eq!(rt; last_of(rt.alloc(), &[DRAWN[0], DRAWN[1], line])?, number, "{line:?}");
+        assert_eq!(rt;
+            last_of(rt.alloc(), &[DRAWN[0], DRAWN[1], line])?,
+            number,
+            "{line:?}"
+        );
     }
     Ok(())
 }
