@@ -18,10 +18,16 @@ use std::io;
 use track::layout::Layout;
 
 impl Guide<'_> {
-    fn plan<S: InWords, R: Rule>(&mut self, name: &str, asked: &Asked<R, S>) -> io::Result<()> {
+    // The walk uses no cell, so a worksheet of one does for any group.
+    fn plan<S: InWords, R: Rule>(
+        &mut self,
+        name: &str,
+        asked: &Asked<R, S>,
+        cells: &mut [Option<S::Cost>],
+    ) -> io::Result<()> {
         println!(self.rt; "{name}, {}", S::ORDER)?;
         let mut sheet = Sheet::default();
-        match self.walk.search(asked, &mut [None], &mut sheet) {
+        match self.walk.search(asked, cells, &mut sheet) {
             Err(Unplanned::BeyondReach) => println!(self.rt; "  the group is beyond reach"),
             Err(Unplanned::NoSheet) => println!(self.rt; "  there is no lawful sheet"),
             Ok(cost) => {
@@ -45,8 +51,8 @@ impl Guide<'_> {
             scale: &StepsThenPoints,
             question,
         };
-        self.plan(name, &by_steps)?;
-        self.plan(name, &by_points)
+        self.plan(name, &by_steps, &mut [None])?;
+        self.plan(name, &by_points, &mut [None])
     }
 
     fn plan_all(&mut self, question: &Question) -> io::Result<()> {
