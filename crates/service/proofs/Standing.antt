@@ -46,6 +46,9 @@ module _ {R S Q C : Type 0} (k : Meaning R S Q C) (rule : R) (scale : S) (below 
     pub with_cells : AllByRecursion (λ e. e.cells ≡ cells) es
     pub written : Appends old new (replies (shown scale) es)
 
+  pub stands_there : (behind : List ℕ) (left new : Option (List ℕ)) (i j : Intake R S Q) → j ≡ i → Standing behind left new i → Standing behind left new j
+  stands_there behind left new i j e h = subst (λ (z : Intake R S Q). Standing behind left new z) (sym e) h
+
   lines_done : (xs : List ℕ) (es : List (LineEvent C)) (i : Intake R S Q) → InputHistory k rule scale below xs es i → AllByRecursion (λ (e : LineEvent C). e.cells ≡ cells) es
       → LinesDone k rule scale below cells (ended_lines xs) es
   lines_done xs es i h c = record { texts = h.lines ∙ given_ended xs; with_cells = c; kept = h.history.kept }

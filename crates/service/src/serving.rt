@@ -50,6 +50,9 @@ pub(crate) fn serve_by<
             Err(error) => return Err(error),
         };
         'bytes: for byte in &piece[..count] {
+            if intake.within(*byte) {
+                continue;
+            }
             if let Some(said) = intake.byte(*byte, cells, &mut sheet) {
                 answer(&intake, &said, writer)?;
             }

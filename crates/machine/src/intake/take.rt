@@ -7,11 +7,12 @@ use sheets::sheet::Sheet;
 use track::refusal::Refusal;
 
 impl<R: Rule, S: Scale, Q: Search<S>> Intake<R, S, Q> {
-    ghost use Rattle.std.specs.Prelude.{◌≡◌, ◌==◌, ℕ, List, [], not, true, false, is_some, length};
+    ghost use Rattle.std.specs.Prelude.{◌≡◌, ◌==◌, ℕ, List, None, [], not, true, false, is_some, length};
     ghost use Rattle.std.specs.Option.{ForSome};
     ghost use Rattle.frames.specs.Cuts.{begun_of, after};
     ghost use Rattle.frames.specs.Cutters.{cut_of};
     ghost use Rattle.frames.specs.Frames.{read_as};
+    ghost use Rattle.sheets.specs.declared.sheet.Sheet.{Sheet};
     ghost use Rattle.planner.specs.History.{meaning};
     ghost use Rattle.machine.specs.Lines.{LineEvent, PlansAsRead, DeclinedLeaves};
     ghost use Rattle.machine.specs.Inputs.{InputHistory, ByteTaken, InputEnded};
@@ -44,6 +45,25 @@ impl<R: Rule, S: Scale, Q: Search<S>> Intake<R, S, Q> {
             return None;
         }
         Some(self.machine.line(self.cutter.line(), cells, sheet))
+    }
+
+    // Takes the byte if it ends no line, and tells whether it did: 0A is left to `byte`.
+    // That call makes room for a reply at every byte, which is most of what such a byte costs.
+    #[inline(always)]
+    pub fn within(&mut self, byte: u8) -> bool
+        ensures whether_the_byte_ends_no_line { result ≡ not (byte == 10) }
+        ensures a_byte_that_ends_no_line_is_taken { let k =
+            meaning R.Rule.conflicts S.Scale.measure Q.Search.takes in
+            (rule : R) (scale : S) (below : Q) (xs : List ℕ) (es : List (LineEvent S.Cost)) (cells : ℕ) (s : Sheet)
+            → (byte == 10) ≡ false → InputHistory k rule scale below xs es self.old
+            → ByteTaken k rule scale below xs es byte cells s s None self.new }
+        ensures the_machine_stays { self.new.machine ≡ self.old.machine }
+        ensures a_byte_that_ends_a_line_is_not_taken { (byte == 10) ≡ true → self.new ≡ self.old }
+    {
+        if byte == b'\n' {
+            return false;
+        }
+        !self.cutter.push(byte)
     }
 
     // Ends the input. A line that has begun is its last: it is done as if 0A had ended it, and this is its
