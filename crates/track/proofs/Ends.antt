@@ -1,5 +1,5 @@
 -- What a layout's ways say of its links.
-use Rattle.std.proofs.Common.{◌≡◌, ℕ, ◌<◌, ◌≤◌, Bool, true, ◌⊎◌, List, [], get_or, length, map, is_some, Some, None, Option, sym, refl, ap, ◌∙◌, inr, subst, ⊎_elim, arith}
+use Rattle.std.proofs.Common.{◌≡◌, ℕ, ◌<◌, ◌≤◌, Bool, true, ◌⊎◌, List, [], get_or, length, map, is_some, Some, None, Option, take, sym, refl, ap, ◌∙◌, inr, subst, ⊎_elim, arith}
 use Rattle.std.proofs.lemmas.Bool.{cases_lt}
 use Rattle.std.proofs.lemmas.List.{get_or-map, get_or_past, length-map}
 use Rattle.std.proofs.lemmas.List.FromFn.{get_or-map-range_with_len, length-map-range_with_len}
@@ -7,7 +7,7 @@ use Rattle.std.specs.List.{range_with_len}
 use Rattle.track.specs.Layouts.{sections_of, look, Neighbours}
 use Rattle.track.specs.Links.{points_of}
 use Rattle.track.specs.Model.{laid}
-use Rattle.track.specs.Ways.{passing, points_along, charted}
+use Rattle.track.specs.Ways.{passing, neighbours_of, points_along, charted}
 use Rattle.track.specs.declared.layout.Layout.{Layout}
 use Rattle.track.specs.declared.link.Link.{Link}
 use Rattle.track.specs.declared.ways.Ways.{Ways}
@@ -66,7 +66,7 @@ module _ (l : Layout) (a : ℕ) (w d : Ways) (h : a < 32) (e : w ≡ get_or l.wa
       ap (λ (row : List (Option ℕ)). get_or row b None) ways_at
       ∙ ⊎_elim (λ k. along_at ls a b k) (λ k. along_past ls a b k ∙ look_none l a b (inr (omega (arith, l.drawing.few)))) (cases_lt b 32)
 
-  pub neighbours_held : Neighbours l a w.ends
+  pub neighbours_held : Neighbours l a (take w.count w.ends)
   neighbours_held =
       let led : ℕ → Bool = λ b. is_some (get_or w.points b None) in
       let p = passing_has led 32 in
@@ -76,6 +76,17 @@ module _ (l : Layout) (a : ℕ) (w d : Ways) (h : a < 32) (e : w ≡ get_or l.wa
         linked = λ i k. ap is_some (sym (points_held (get_or (passing led 32) i 0))) ∙ p.passes i k;
         every = λ b s. let k = look_on l a b s in p.every b (omega (arith, k.1, l.drawing.few)) (ap is_some (points_held b) ∙ s);
       })
+
+-- the sections below 32 that a link leads to are all
+pub neighbours_of_lem : (l : Layout) (a : ℕ) → Neighbours l a (neighbours_of (laid l).links a)
+unfolding look neighbours_of
+neighbours_of_lem l a =
+    let p = passing_has (λ b. is_some (look l a b)) 32 in
+    record {
+      rising = p.rising;
+      linked = p.passes;
+      every = λ b h. let k = look_on l a b h in p.every b (omega (arith, k.1, l.drawing.few)) h;
+    }
 
 pub no_neighbours : (l : Layout) (a : ℕ) → (laid l).sections ≤ a → Neighbours l a []
 no_neighbours l a h =

@@ -1,9 +1,8 @@
-ghost use Rattle.std.specs.Prelude.{◌≡◌, map, slice_index_or};
+ghost use Rattle.std.specs.Prelude.{◌≡◌, map, take, slice_index_or};
 ghost use Rattle.track.specs.Ways.{points_along, charted};
 ghost use Rattle.track.specs.declared.ways.Ways.{Ways};
 
 use crate::link::{Link, points_in};
-use crate::list::FixedList;
 use crate::ways::Ways;
 use std::array;
 
@@ -13,11 +12,17 @@ impl Ways {
         ensures the_ways_from_the_section { result.points ≡ points_along links.now a }
     {
         let points = points_from(links, a);
-        let mut ends = FixedList::new(0);
+        let mut count = 0;
+        let mut ends = [0; 32];
         for b in (0..32u8).filter(|b| way_to(&points, *b).is_some()) {
-            ends.push(b);
+            ends[count] = b;
+            count += 1;
         }
-        Ways { points, ends }
+        Ways {
+            points,
+            count,
+            ends,
+        }
     }
 
     // The points on the way to `b`.
@@ -29,9 +34,9 @@ impl Ways {
 
     // The sections that a link leads to.
     pub(crate) fn ends(&self) -> &[u8]
-        ensures the_sections_that_a_link_leads_to { result.now ≡ self.now.ends }
+        ensures the_sections_that_a_link_leads_to { result.now ≡ take self.now.count self.now.ends }
     {
-        self.ends.items()
+        &self.ends[..self.count]
     }
 }
 
