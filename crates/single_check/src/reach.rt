@@ -24,8 +24,13 @@ fn spread(question: &Question, reached: &mut [bool; 32])
     ensures one_step_outward { Widened reached.old (OnwardFrom question.now.layout.now question.now.roster.now reached.old) reached.new }
 {
     let before = *reached;
+    let sections = usize::from(question.layout.sections());
+    // it ends at the layout's last section: on a small layout all 32 marks would be most of the work
     // the cast is proved to lose nothing; with `(0u8..).zip(before)` the proof did not close: open was that the number is that of the item
     for (a, marked) in before.iter().enumerate() {
+        if a == sections {
+            break;
+        }
         if *marked {
             mark_neighbours(question, a as u8, reached);
         }
