@@ -4,7 +4,7 @@ ghost use Rattle.track.specs.Ways.{passing};
 pub mod find;
 
 // The ways from a section: the points on the way to each section, and the sections that a way leads to, in rising order.
-// They are an array and a count, and no `FixedList`, which is not `Copy`.
+// The sections are an array with a count, and no `FixedList`, which is not `Copy`.
 #[derive(Clone, Copy)]
 pub struct Ways {
     points: [Option<u8>; 32],
